@@ -1,0 +1,5 @@
+pub mod Stack
+pub mod Notes
+pub mod Agreeing
+pub mod Refusing
+pub mod Settling

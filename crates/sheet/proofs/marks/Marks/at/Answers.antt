@@ -1,0 +1,13 @@
+use native.Mathlib.Omega.{arith}
+use Prim.Native.Nat.{_≤_}
+use mathlib.Core.Path.{sym}
+use lib.ListN.{length}
+use Rattle.std.proofs.shelf.Lists.{getD-past}
+use Rattle.sheet.specs.declared.mark.Mark.the-variants.{Out}
+use Rattle.sheet.proofs.marks.Marks.at.Needs as need
+
+pub returns-then-place-gt1023 : need.returns-then-place-gt1023
+returns-then-place-gt1023 c =
+    let marks = c .args .self .now in
+    let past : length (marks .places) ≤ c .args .place = omega (arith, marks .whole) in
+    sym (getD-past (marks .places) (c .args .place) Out past)
