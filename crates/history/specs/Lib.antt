@@ -1,0 +1,4 @@
+pub mod Turns
+pub mod Data
+pub mod Reaches
+pub mod Law
