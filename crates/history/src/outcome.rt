@@ -15,7 +15,7 @@ pub enum CallFault {
     OutOfTurn,
 }
 
-impl From<SheetFault> for CallFault as CallFaultFromSheetFault {
+pub impl From<SheetFault> for CallFault as CallFaultFromSheetFault {
     ghost converts = { λ f r. r ≡ Sheet f };
 
     fn from(fault: SheetFault) -> CallFault {
@@ -29,7 +29,7 @@ impl CallFault {
         ensures { λ r. ⌜ r ≡ callFaultNumber self ⌝ }
     {
         match self {
-            CallFault::Sheet(fault) => fault.number(),
+            CallFault::Sheet(refused) => refused.number(),
             CallFault::OutOfTurn => 20,
         }
     }

@@ -10,6 +10,7 @@ ghost use Rattle.history.specs.Reaches.{Reaches, shownOn};
 ghost use Rattle.history.specs.Turns.{toldAfter, fitting};
 use crate::call::SheetCall;
 use crate::outcome::CallFault;
+use crate::outcome::CallFaultFromSheetFault;
 use crate::outcome::Outcome;
 use sheet::fault::SheetFault;
 use sheet::mark::Mark;
@@ -27,7 +28,7 @@ fn outcome_of(result: Result<(), SheetFault>) -> Outcome
 {
     match result {
         Ok(()) => Outcome::Done,
-        Err(fault) => Outcome::Refused(CallFault::Sheet(fault)),
+        Err(fault) => Outcome::Refused(fault.into()),
     }
 }
 

@@ -5,6 +5,8 @@ ghost use mathlib.Core.Path.{_≡_};
 ghost use Rattle.std.specs.Results.{Cases};
 use crate::fault::SheetFault;
 
+pub const LAST_PLACE: u32 = 1023;
+
 #[derive(Clone, Copy)]
 pub struct Place {
     index: usize,
@@ -18,7 +20,7 @@ impl Place {
     pub fn numbered(number: u32) -> Result<Place, SheetFault>
         ensures { λ r. ⌜ Cases r (λ p. p .index ≡ number) (λ f. (f ≡ SheetFault.NoSuchPlace) × (1023 < number)) ⌝ }
     {
-        if number > 1023 {
+        if number > LAST_PLACE {
             return Err(SheetFault::NoSuchPlace);
         }
         Ok(Place {

@@ -51,7 +51,7 @@ impl OpenSheet {
     {
         let target = Place::numbered(place)?;
         let given = Mark::numbered(mark)?;
-        let before = self.marks.at(place);
+        let before = self.mark_at(place);
         self.trail
             .push(Step {
                 place: target,
@@ -98,7 +98,7 @@ impl SetSheet {
         ensures shows { λ r. ⌜ r ≡ shown (now (self .entry) .marks) place ⌝ }
         ensures answers { λ r. ⌜ ((cs : History) → ReachedSet cs (now (self .entry)) → r ≡ markAfter cs place) ⌝ }
     {
-        self.marks.at(place)
+        self.marks().at(place)
     }
 
     // All marks at once, which only a set sheet shows: what an ask reads.
@@ -116,8 +116,8 @@ impl SetSheet {
     {
         let SetSheet { marks } = self;
         OpenSheet {
-            marks,
             trail: Trail::new(),
+            marks,
         }
     }
 }

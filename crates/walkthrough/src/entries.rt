@@ -41,7 +41,10 @@ fn fill_trail(rt: &impl Print, sheet: &mut OpenSheet) -> io::Result<()> {
             done = done.saturating_add(1);
         }
     }
-    println!(rt, "  mark 0 1 and mark 1 1 in turn, 256 times: {done} done")?;
+    println!(
+        rt,
+        "  mark 0 1 and mark 1 1 in turn, 256 times: {done} done"
+    )?;
     mark(rt, sheet, 5, 2)?;
     undo(rt, sheet)?;
     mark(rt, sheet, 5, 2)

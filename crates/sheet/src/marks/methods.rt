@@ -8,6 +8,7 @@ ghost use Rattle.sheet.specs.declared.mark.Mark.the-variants.{Out};
 ghost use Rattle.sheet.specs.Shown.{shown};
 use crate::mark::Mark;
 use crate::marks::Marks;
+use crate::place::LAST_PLACE;
 use crate::place::Place;
 
 impl Marks {
@@ -23,7 +24,7 @@ impl Marks {
     pub fn at(&self, place: u32) -> Mark
         ensures { λ r. ⌜ r ≡ shown (now (self .entry)) place ⌝ }
     {
-        if place > 1023 {
+        if place > LAST_PLACE {
             Mark::Out
         } else {
             self.places[place as usize]

@@ -12,6 +12,8 @@ use crate::place::Place;
 use crate::trail::Step;
 use crate::trail::Trail;
 
+const LONGEST_TRAIL: usize = 256;
+
 impl Trail {
     pub fn new() -> Trail
         ensures { λ r. ⌜ undoes r ≡ [] ⌝ }
@@ -31,7 +33,7 @@ impl Trail {
             (λ _. (undoes (now (self .exit)) ≡ step ∷ undoes (now (self .entry))) × (length (undoes (now (self .entry))) < 256))
             (λ f. (f ≡ SheetFault.TrailFull) × (length (undoes (now (self .entry))) ≡ 256) × (now (self .exit) ≡ now (self .entry))) ⌝ }
     {
-        if self.len >= 256 {
+        if self.len >= LONGEST_TRAIL {
             return Err(SheetFault::TrailFull);
         }
         self.steps[self.len] = step;
@@ -47,7 +49,8 @@ impl Trail {
         if self.len == 0 {
             return Err(SheetFault::TrailEmpty);
         }
-        self.len -= 1;
-        Ok(self.steps[self.len])
+        let last = self.len - 1;
+        self.len = last;
+        Ok(self.steps[last])
     }
 }

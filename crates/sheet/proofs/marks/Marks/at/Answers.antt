@@ -6,8 +6,8 @@ use Rattle.std.proofs.shelf.Lists.{getD-past}
 use Rattle.sheet.specs.declared.mark.Mark.the-variants.{Out}
 use Rattle.sheet.proofs.marks.Marks.at.Needs as need
 
-pub returns-then-place-gt1023 : need.returns-then-place-gt1023
-returns-then-place-gt1023 c =
+pub returns-then-place-gt-LAST-PLACE : need.returns-then-place-gt-LAST-PLACE
+returns-then-place-gt-LAST-PLACE c =
     let marks = c .args .self .now in
     let past : length (marks .places) ≤ c .args .place = omega (arith, marks .whole) in
     sym (getD-past (marks .places) (c .args .place) Out past)

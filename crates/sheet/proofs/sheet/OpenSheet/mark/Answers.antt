@@ -62,7 +62,7 @@ returns c =
     let p = c .args .place in
     let k = c .args .mark in
     let s = c .args .self .now in
-    let step : Step = record { place = c .in-Continue-target .target; before = c .at-before .result } in
+    let step : Step = record { place = c .in-Continue-target .target; before = c .mark-at-before .result } in
     let pushed = c .in-Continue-push .ensures tt in
     let near : p ≤ 1023 = omega (arith, c .in-Continue-target .ensures tt, c .in-Continue-target .target .«on_sheet») in
     let given = c .in-Continue-given .ensures tt in
@@ -72,6 +72,6 @@ returns c =
           then-agrees cs (marking p k) _ _ (taken-marking (model cs) p k near (given .1) (λ (full : model cs .h ≡ 256). omega (arith, pushed .1, agrees-height (model cs) (shown (s .marks)) (undoes (s .trail)) a)))
           (subst (Agrees _ (shown (c .put .last .self))) (sym (pushed .0))
           (marking-agrees (model cs) (shown (s .marks)) (shown (c .put .last .self)) step (undoes (s .trail)) p k (c .in-Continue-given .given)
-          (c .in-Continue-target .ensures tt) (c .at-before .ensures) (given .0) (c .put .ensures) a));
+          (c .in-Continue-target .ensures tt) (c .mark-at-before .ensures .shows) (given .0) (c .put .ensures) a));
       refused = λ e. absurd (false≢true e);
     }

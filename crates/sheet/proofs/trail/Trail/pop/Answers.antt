@@ -11,4 +11,4 @@ returns c =
     let long : length (c .args .self .now .steps) ≡ 256 = c .args .self .now .whole in
     let some : 0 < c .args .self .now .len = omega arith in
     let all : c .args .self .now .len ≤ length (c .args .self .now .steps) = omega (arith, c .args .self .now .fits) in
-    popped (c .args .self .now .steps) (c .args .self .now .len) (c .index-self-self .result) some all
+    popped (c .args .self .now .steps) (c .args .self .now .len) (c .index-self-last .result) some all

@@ -7,8 +7,8 @@ use mathlib.Core.List.{reverse}
 use Rattle.sheet.proofs.Stack.{pushed, stack-length}
 use Rattle.sheet.proofs.trail.Trail.push.Needs as need
 
-pub returns-then-self-ge256 : need.returns-then-self-ge256
-returns-then-self-ge256 c =
+pub returns-then-self-ge-LONGEST-TRAIL : need.returns-then-self-ge-LONGEST-TRAIL
+returns-then-self-ge-LONGEST-TRAIL c =
     let t = c .args .self .now in
     let long : length (t .steps) ≡ 256 = t .whole in
     let all : t .len ≤ length (t .steps) = omega (arith, t .fits) in
