@@ -3,11 +3,16 @@ use mathlib.Core.Path.{_≡_, refl, sym, ap, _∙_}
 use mathlib.Core.Bool.{Bool, true, false, cond}
 use mathlib.Core.List.{List, [], _∷_, _++_, append-nil}
 use Rattle.std.specs.Iters.{folded}
+use Rattle.std.specs.Options.{isSome}
+use Rattle.std.specs.Results.{isErr}
 use Rattle.std.specs.declared.option.Option.the-variants.{Some}
+use Rattle.std.specs.declared.result.Result.{Result}
+use Rattle.std.specs.declared.result.Result.the-variants.{Ok, Err}
 use Rattle.std.proofs.shelf.Sums.{folded-push}
 use Rattle.std.proofs.shelf.Tests.{cond-true, cond-false}
 use Rattle.sheet.specs.Model.{Call, refusalAfter}
-use Rattle.sheet.specs.Numbers.{refusedBy}
+use Rattle.sheet.specs.declared.fault.SheetFault.{SheetFault}
+use Rattle.sheet.specs.Numbers.{refusedBy, told}
 use Rattle.history.specs.Turns.{fits, opens, openAfter, fittingFrom, fitting, toldAfter}
 
 pub openAfter-push : {Q : Type 0} (cs : List (Call Q)) (c : Call Q) → openAfter (cs ++ c ∷ []) ≡ opens (openAfter cs) c
@@ -34,3 +39,8 @@ told-in-turn cs c fit = cond-true _ _ _ fit
 
 pub told-out-of-turn : {Q : Type 0} (cs : List (Call Q)) (c : Call Q) → fits (openAfter cs) c ≡ false → toldAfter cs c ≡ Some (refusedBy 20)
 told-out-of-turn cs c unfit = cond-false _ _ _ unfit
+
+-- what tells of a refusal is an error
+pub told-err : {T : Type 0} (r : Result T SheetFault) → isSome (told r) ≡ true → isErr r ≡ true
+told-err (Ok x) e = e
+told-err (Err f) e = refl

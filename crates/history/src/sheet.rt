@@ -1,8 +1,10 @@
 // A sheet in either state, which takes any call and answers 20 to one that does not fit its state.
 
 ghost use Prim.Native.Nat.{ℕ};
+ghost use mathlib.Core.Bool.{true};
 ghost use mathlib.Core.Path.{_≡_};
 ghost use mathlib.Core.List.{List, [], _∷_, _++_};
+ghost use Rattle.std.specs.Options.{isSome};
 ghost use Rattle.sheet.specs.Model.{History, markAfter};
 ghost use Rattle.sheet.specs.Numbers.{told};
 ghost use Rattle.history.specs.Data.{callOf, outcomeTells};
@@ -35,6 +37,7 @@ fn outcome_of(result: Result<(), SheetFault>) -> Outcome
 fn call_open(mut sheet: OpenSheet, call: SheetCall) -> (Sheet, Outcome)
     ensures answers { λ r. ⌜ ((cs : History) → Reaches cs (Sheet.Open sheet) → outcomeTells (r .1) ≡ toldAfter cs (callOf call)) ⌝ }
     ensures reaches { λ r. ⌜ ((cs : History) → Reaches cs (Sheet.Open sheet) → Reaches (cs ++ callOf call ∷ []) (r .0)) ⌝ }
+    ensures refused { λ r. ⌜ (isSome (outcomeTells (r .1)) ≡ true → r .0 ≡ Sheet.Open sheet) ⌝ }
 {
     match call {
         SheetCall::Mark(place, mark) => {
@@ -53,6 +56,7 @@ fn call_open(mut sheet: OpenSheet, call: SheetCall) -> (Sheet, Outcome)
 fn call_set(sheet: SetSheet, call: SheetCall) -> (Sheet, Outcome)
     ensures answers { λ r. ⌜ ((cs : History) → Reaches cs (Sheet.Set sheet) → outcomeTells (r .1) ≡ toldAfter cs (callOf call)) ⌝ }
     ensures reaches { λ r. ⌜ ((cs : History) → Reaches cs (Sheet.Set sheet) → Reaches (cs ++ callOf call ∷ []) (r .0)) ⌝ }
+    ensures refused { λ r. ⌜ (isSome (outcomeTells (r .1)) ≡ true → r .0 ≡ Sheet.Set sheet) ⌝ }
 {
     match call {
         SheetCall::Reopen => (Sheet::Open(sheet.reopen()), Outcome::Done),
@@ -74,6 +78,7 @@ impl Sheet {
     pub fn call(self, call: SheetCall) -> (Sheet, Outcome)
         ensures answers { λ r. ⌜ ((cs : History) → Reaches cs self → outcomeTells (r .1) ≡ toldAfter cs (callOf call)) ⌝ }
         ensures reaches { λ r. ⌜ ((cs : History) → Reaches cs self → Reaches (cs ++ callOf call ∷ []) (r .0)) ⌝ }
+        ensures refused { λ r. ⌜ (isSome (outcomeTells (r .1)) ≡ true → r .0 ≡ self) ⌝ }
     {
         match self {
             Sheet::Open(sheet) => call_open(sheet, call),

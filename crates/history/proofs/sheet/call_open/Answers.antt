@@ -1,12 +1,14 @@
 use mathlib.Core.Path.{_≡_, refl, sym, ap, subst, _∙_}
 use mathlib.Core.List.{List, [], _∷_, _++_}
+use Rattle.std.specs.Options.{isSome}
+use Rattle.std.proofs.shelf.Tests.{false≢true}
 use Rattle.sheet.specs.Model.{Call, History, marking, undoing, setting, reopening}
 use Rattle.history.specs.declared.sheet.Sheet.the-variants.{Open, Set}
 use Rattle.history.specs.Data.{callOf}
 use Rattle.history.specs.Reaches.{Reaches}
 use Rattle.history.specs.Turns.{fits, fitting, toldAfter}
 use Rattle.history.proofs.Reaching.{turns-open, turns-set, stays-open}
-use Rattle.history.proofs.Turning.{told-in-turn, told-out-of-turn}
+use Rattle.history.proofs.Turning.{told-in-turn, told-out-of-turn, told-err}
 use Rattle.history.proofs.sheet.call_open.Needs as need
 
 pub returns-in-Mark : need.returns-in-Mark
@@ -18,6 +20,7 @@ returns-in-Mark c =
       reaches = λ cs a.
           subst (λ (d : Call (Unit {0})). Reaches (cs ++ d ∷ []) (Open (c .mark-result .last .self))) (sym is)
           (turns-open cs call (c .mark-result .last .self) (a .0) (a .0) (c .mark-result .ensures .reached (fitting cs) (a .1)));
+      refused = λ e. ap Open (c .mark-result .ensures .refused (told-err (c .mark-result .result) (ap isSome (sym (c .outcome-of .ensures)) ∙ e)));
     }
 
 pub returns-in-Undo : need.returns-in-Undo
@@ -28,6 +31,7 @@ returns-in-Undo c =
       reaches = λ cs a.
           subst (λ (d : Call (Unit {0})). Reaches (cs ++ d ∷ []) (Open (c .undo-result .last .self))) (sym is)
           (turns-open cs undoing (c .undo-result .last .self) (a .0) (a .0) (c .undo-result .ensures .reached (fitting cs) (a .1)));
+      refused = λ e. ap Open (c .undo-result .ensures .refused (told-err (c .undo-result .result) (ap isSome (sym (c .outcome-of-in-Undo .ensures)) ∙ e)));
     }
 
 pub returns-in-Set : need.returns-in-Set
@@ -38,6 +42,7 @@ returns-in-Set c =
       reaches = λ cs a.
           subst (λ (d : Call (Unit {0})). Reaches (cs ++ d ∷ []) (Set (c .set .result))) (sym is)
           (turns-set cs setting (c .set .result) refl (a .0) (c .set .ensures .reached (fitting cs) (a .1)));
+      refused = λ e. absurd (false≢true e);
     }
 
 pub returns-in-Reopen : need.returns-in-Reopen
@@ -48,4 +53,5 @@ returns-in-Reopen c =
       reaches = λ cs a.
           subst (λ (d : Call (Unit {0})). Reaches (cs ++ d ∷ []) (Open (c .args .sheet))) (sym is)
           (stays-open cs reopening (c .args .sheet) refl (ap (λ b. fits {Q = Unit {0}} b reopening) (a .0)) (a .1));
+      refused = λ _. refl;
     }

@@ -2,6 +2,7 @@ use mathlib.Core.Path.{_≡_, refl, sym, ap, subst, _∙_}
 use mathlib.Core.Bool.{Bool, true, false}
 use mathlib.Core.Logic.{_⊎_, inl, inr}
 use mathlib.Core.List.{List, [], _∷_, _++_}
+use Rattle.std.proofs.shelf.Tests.{false≢true}
 use Rattle.sheet.specs.Model.{Call, History, marking, undoing, setting, reopening}
 use Rattle.history.specs.declared.call.SheetCall.{SheetCall}
 use Rattle.history.specs.declared.sheet.Sheet.the-variants.{Open, Set}
@@ -20,6 +21,7 @@ returns-in-Reopen c =
       reaches = λ cs a.
           subst (λ (d : Call (Unit {0})). Reaches (cs ++ d ∷ []) (Open (c .reopen .result))) (sym is)
           (turns-open cs reopening (c .reopen .result) refl (ap (λ b. fits {Q = Unit {0}} b reopening) (a .0)) (c .reopen .ensures .reached (fitting cs) (a .1)));
+      refused = λ e. absurd (false≢true e);
     }
 
 -- a call that is none of a set sheet's: it does not fit, and the sheet stays set
@@ -39,4 +41,5 @@ returns-in-Mark c =
     record {
       answers = λ cs a. sym (told-out-of-turn cs call (ap (λ b. fits b call) (a .0) ∙ foreign c .0));
       reaches = λ cs a. stays-set cs call (c .args .sheet) (ap (λ b. opens b call) (a .0) ∙ foreign c .1) (ap (λ b. fits b call) (a .0) ∙ foreign c .0) (a .1);
+      refused = λ _. refl;
     }
