@@ -1,6 +1,8 @@
-// Goes through two entries, call by call, and then through one as a list of calls, and prints what each call got.
+// Goes through two entries, call by call, then through one as a list of calls, then through some grids, and prints what
+// came of each.
 
 mod entries;
+mod grids;
 mod list;
 mod show;
 
@@ -9,5 +11,6 @@ use std::io;
 fn main(rt: LibcRuntime) -> io::Result<()> {
     entries::first(&rt)?;
     entries::second(&rt)?;
-    list::run_listed(&rt)
+    list::run_listed(&rt)?;
+    grids::walk(&rt)
 }

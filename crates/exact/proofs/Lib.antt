@@ -1,0 +1,9 @@
+pub mod Integers
+pub mod Scaling
+pub mod BitLength
+pub mod Multiples
+pub mod Halves
+pub mod Order
+pub mod Sums
+pub mod Exponents
+pub mod Limbs

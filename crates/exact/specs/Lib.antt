@@ -1,0 +1,4 @@
+pub mod Integers
+pub mod Dyadic
+pub mod Limbs
+pub mod Claims

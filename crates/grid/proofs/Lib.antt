@@ -1,0 +1,15 @@
+pub mod Everywhere
+pub mod Magnitudes
+pub mod Finer
+pub mod Integers
+pub mod Nearest
+pub mod Dyadics
+pub mod Members
+pub mod Neighbours
+pub mod Ties
+pub mod Distances
+pub mod Monotone
+pub mod Outcomes
+pub mod Theorems
+pub mod Widths
+pub mod Examples
