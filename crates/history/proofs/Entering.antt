@@ -13,10 +13,10 @@ use Rattle.sheet.specs.Numbers.{Refusal}
 use Rattle.history.specs.declared.outcome.Outcome.{Outcome}
 use Rattle.history.specs.declared.outcome.Outcome.the-variants.{Done}
 use Rattle.history.specs.declared.sheet.Sheet.{Sheet}
-use Rattle.history.specs.Data.{outcomeTells}
+use Rattle.history.specs.Data.{outcome-tells}
 use Rattle.history.specs.Law.{EntryLaw}
 use Rattle.history.specs.Reaches.{Reaches}
-use Rattle.history.specs.Turns.{toldAfter}
+use Rattle.history.specs.Turns.{told-after}
 use Rattle.history.proofs.Reaching.{reaches-marks}
 
 pub law-none : (before : List Outcome) (s : Sheet) → Reaches [] s → EntryLaw [] before before s
@@ -28,21 +28,21 @@ law-none before s a = record {
 }
 
 pub law-push : (cs : History) (before written : List Outcome) (s t : Sheet) (c : Call (Unit {0})) (o : Outcome) → length cs < length written
-    → outcomeTells o ≡ toldAfter cs c → Reaches (cs ++ c ∷ []) t → EntryLaw cs before written s → EntryLaw (cs ++ c ∷ []) before (set written (length cs) o) t
+    → outcome-tells o ≡ told-after cs c → Reaches (cs ++ c ∷ []) t → EntryLaw cs before written s → EntryLaw (cs ++ c ∷ []) before (set written (length cs) o) t
 law-push cs before written s t c o room told a law =
     let n = length cs in
     let longer : length (cs ++ c ∷ []) ≡ length cs + 1 = length-push cs c in
     record {
       answers = λ i within. ⊎-elim
           (λ (last : i ≡ n).
-          ap outcomeTells (subst (λ (j : ℕ). getD (set written n o) j Done ≡ o) (sym last) (getD-set-same written n o Done room))
-          ∙ told ∙ ap (λ (h : History). toldAfter h c) (sym (take-at cs (c ∷ []) i (sym last)))
-          ∙ ap (toldAfter (take i (cs ++ c ∷ []))) (sym (getD-push cs c undoing i (sym last))))
+          ap outcome-tells (subst (λ (j : ℕ). getD (set written n o) j Done ≡ o) (sym last) (getD-set-same written n o Done room))
+          ∙ told ∙ ap (λ (h : History). told-after h c) (sym (take-at cs (c ∷ []) i (sym last)))
+          ∙ ap (told-after (take i (cs ++ c ∷ []))) (sym (getD-push cs c undoing i (sym last))))
           (λ (earlier : i ≡ n → ⊥).
           let inside : i < length cs = omega (arith, longer, earlier) in
-          ap outcomeTells (getD-set-other written n i o Done earlier) ∙ law .answers i inside
-          ∙ ap (λ (h : History). toldAfter h (getD cs i undoing)) (sym (take-append-le i cs (c ∷ []) (omega arith)))
-          ∙ ap (toldAfter (take i (cs ++ c ∷ []))) (sym (getD-append-left cs (c ∷ []) undoing i inside)))
+          ap outcome-tells (getD-set-other written n i o Done earlier) ∙ law .answers i inside
+          ∙ ap (λ (h : History). told-after h (getD cs i undoing)) (sym (take-append-le i cs (c ∷ []) (omega arith)))
+          ∙ ap (told-after (take i (cs ++ c ∷ []))) (sym (getD-append-left cs (c ∷ []) undoing i inside)))
           (cases-eq i n);
       untouched =
           subst (λ (k : ℕ). drop k (set written n o) ≡ drop k before) (sym longer)
@@ -53,7 +53,7 @@ law-push cs before written s t c o room told a law =
 
 -- the same, of the first i calls of a list and the next one
 pub law-more : (cs : History) (i : ℕ) (before written : List Outcome) (s t : Sheet) (c : Call (Unit {0})) (o : Outcome) → i < length cs → i < length written
-    → getD cs i undoing ≡ c → outcomeTells o ≡ toldAfter (take i cs) c → Reaches (take i cs ++ c ∷ []) t → EntryLaw (take i cs) before written s → EntryLaw (take (i + 1) cs) before (set written i o) t
+    → getD cs i undoing ≡ c → outcome-tells o ≡ told-after (take i cs) c → Reaches (take i cs ++ c ∷ []) t → EntryLaw (take i cs) before written s → EntryLaw (take (i + 1) cs) before (set written i o) t
 law-more cs i before written s t c o within room here told a law =
     let long : length (take i cs) ≡ i = length-take-le i cs (omega arith) in
     let more : take i cs ++ c ∷ [] ≡ take (i + 1) cs = ap (λ (x : Call (Unit {0})). take i cs ++ x ∷ []) (sym here) ∙ sym (take-more cs i undoing within) in

@@ -4,7 +4,7 @@ use mathlib.Core.List.{List, map}
 use Rattle.std.specs.declared.option.Option.{Option}
 use Rattle.std.specs.declared.option.Option.the-variants.{Some, None}
 use Rattle.sheet.specs.Model.{Call, History, marking, undoing, setting, reopening}
-use Rattle.sheet.specs.Numbers.{Refusal, refusedBy, faultNumber}
+use Rattle.sheet.specs.Numbers.{Refusal, refused-by, fault-number}
 use Rattle.history.specs.declared.call.SheetCall.{SheetCall}
 use Rattle.history.specs.declared.call.SheetCall.the-variants.{Mark, Undo, Set, Reopen}
 use Rattle.history.specs.declared.outcome.CallFault.{CallFault}
@@ -12,20 +12,20 @@ use Rattle.history.specs.declared.outcome.CallFault.the-variants.{Sheet, OutOf
 use Rattle.history.specs.declared.outcome.Outcome.{Outcome}
 use Rattle.history.specs.declared.outcome.Outcome.the-variants.{Done, Refused}
 
-abbrev pub callOf : SheetCall → Call (Unit {0})
-callOf (Mark p k) = marking p k
-callOf Undo = undoing
-callOf Set = setting
-callOf Reopen = reopening
+abbrev pub call-of : SheetCall → Call (Unit {0})
+call-of (Mark p k) = marking p k
+call-of Undo = undoing
+call-of Set = setting
+call-of Reopen = reopening
 
-abbrev pub callsOf : List SheetCall → History
-callsOf cs = map callOf cs
+abbrev pub calls-of : List SheetCall → History
+calls-of cs = map call-of cs
 
-abbrev pub callFaultNumber : CallFault → ℕ
-callFaultNumber (Sheet f) = faultNumber f
-callFaultNumber OutOfTurn = 20
+abbrev pub call-fault-number : CallFault → ℕ
+call-fault-number (Sheet f) = fault-number f
+call-fault-number OutOfTurn = 20
 
 -- what an outcome tells: nothing where the call was done, else its refusal
-abbrev pub outcomeTells : Outcome → Option Refusal
-outcomeTells Done = None
-outcomeTells (Refused f) = Some (refusedBy (callFaultNumber f))
+abbrev pub outcome-tells : Outcome → Option Refusal
+outcome-tells Done = None
+outcome-tells (Refused f) = Some (refused-by (call-fault-number f))

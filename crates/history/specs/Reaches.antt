@@ -8,13 +8,13 @@ use Rattle.sheet.specs.Shown.{shown}
 use Rattle.sheet.specs.declared.mark.Mark.{Mark}
 use Rattle.history.specs.declared.sheet.Sheet.{Sheet}
 use Rattle.history.specs.declared.sheet.Sheet.the-variants.{Open, Set}
-use Rattle.history.specs.Turns.{openAfter, fitting}
+use Rattle.history.specs.Turns.{open-after, fitting}
 
 abbrev pub Reaches : History → Sheet → Type 0
-Reaches cs (Open s) = (openAfter cs ≡ true) × Reached (fitting cs) s
-Reaches cs (Set s) = (openAfter cs ≡ false) × ReachedSet (fitting cs) s
+Reaches cs (Open s) = (open-after cs ≡ true) × Reached (fitting cs) s
+Reaches cs (Set s) = (open-after cs ≡ false) × ReachedSet (fitting cs) s
 
 -- the mark that a place of the sheet shows
-abbrev pub shownOn : Sheet → ℕ → Mark
-shownOn (Open s) p = shown (s .marks) p
-shownOn (Set s) p = shown (s .marks) p
+abbrev pub shown-on : Sheet → ℕ → Mark
+shown-on (Open s) p = shown (s .marks) p
+shown-on (Set s) p = shown (s .marks) p

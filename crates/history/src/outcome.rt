@@ -1,7 +1,7 @@
 // What a call of a list got.
 
 ghost use mathlib.Core.Path.{_≡_};
-ghost use Rattle.history.specs.Data.{callFaultNumber};
+ghost use Rattle.history.specs.Data.{call-fault-number};
 ghost use Rattle.history.specs.declared.outcome.CallFault.the-variants.{Sheet};
 use sheet::fault::SheetFault;
 use sheet::fault::SheetFaultDebug;
@@ -26,7 +26,7 @@ pub impl From<SheetFault> for CallFault as CallFaultFromSheetFault {
 impl CallFault {
     // The published number of the refusal.
     pub fn number(self) -> u32
-        ensures { λ r. ⌜ r ≡ callFaultNumber self ⌝ }
+        ensures { λ r. ⌜ r ≡ call-fault-number self ⌝ }
     {
         match self {
             CallFault::Sheet(refused) => refused.number(),

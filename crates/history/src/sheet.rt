@@ -5,11 +5,11 @@ ghost use mathlib.Core.Bool.{true};
 ghost use mathlib.Core.Path.{_≡_};
 ghost use mathlib.Core.List.{List, [], _∷_, _++_};
 ghost use Rattle.std.specs.Options.{isSome};
-ghost use Rattle.sheet.specs.Model.{History, markAfter};
+ghost use Rattle.sheet.specs.Model.{History, mark-after};
 ghost use Rattle.sheet.specs.Numbers.{told};
-ghost use Rattle.history.specs.Data.{callOf, outcomeTells};
-ghost use Rattle.history.specs.Reaches.{Reaches, shownOn};
-ghost use Rattle.history.specs.Turns.{toldAfter, fitting};
+ghost use Rattle.history.specs.Data.{call-of, outcome-tells};
+ghost use Rattle.history.specs.Reaches.{Reaches, shown-on};
+ghost use Rattle.history.specs.Turns.{told-after, fitting};
 use crate::call::SheetCall;
 use crate::outcome::CallFault;
 use crate::outcome::CallFaultFromSheetFault;
@@ -26,7 +26,7 @@ pub enum Sheet {
 }
 
 fn outcome_of(result: Result<(), SheetFault>) -> Outcome
-    ensures { λ r. ⌜ outcomeTells r ≡ told result ⌝ }
+    ensures { λ r. ⌜ outcome-tells r ≡ told result ⌝ }
 {
     match result {
         Ok(()) => Outcome::Done,
@@ -35,9 +35,9 @@ fn outcome_of(result: Result<(), SheetFault>) -> Outcome
 }
 
 fn call_open(mut sheet: OpenSheet, call: SheetCall) -> (Sheet, Outcome)
-    ensures answers { λ r. ⌜ ((cs : History) → Reaches cs (Sheet.Open sheet) → outcomeTells (r .1) ≡ toldAfter cs (callOf call)) ⌝ }
-    ensures reaches { λ r. ⌜ ((cs : History) → Reaches cs (Sheet.Open sheet) → Reaches (cs ++ callOf call ∷ []) (r .0)) ⌝ }
-    ensures refused { λ r. ⌜ (isSome (outcomeTells (r .1)) ≡ true → r .0 ≡ Sheet.Open sheet) ⌝ }
+    ensures answers { λ r. ⌜ ((cs : History) → Reaches cs (Sheet.Open sheet) → outcome-tells (r .1) ≡ told-after cs (call-of call)) ⌝ }
+    ensures reaches { λ r. ⌜ ((cs : History) → Reaches cs (Sheet.Open sheet) → Reaches (cs ++ call-of call ∷ []) (r .0)) ⌝ }
+    ensures refused { λ r. ⌜ (isSome (outcome-tells (r .1)) ≡ true → r .0 ≡ Sheet.Open sheet) ⌝ }
 {
     match call {
         SheetCall::Mark(place, mark) => {
@@ -54,9 +54,9 @@ fn call_open(mut sheet: OpenSheet, call: SheetCall) -> (Sheet, Outcome)
 }
 
 fn call_set(sheet: SetSheet, call: SheetCall) -> (Sheet, Outcome)
-    ensures answers { λ r. ⌜ ((cs : History) → Reaches cs (Sheet.Set sheet) → outcomeTells (r .1) ≡ toldAfter cs (callOf call)) ⌝ }
-    ensures reaches { λ r. ⌜ ((cs : History) → Reaches cs (Sheet.Set sheet) → Reaches (cs ++ callOf call ∷ []) (r .0)) ⌝ }
-    ensures refused { λ r. ⌜ (isSome (outcomeTells (r .1)) ≡ true → r .0 ≡ Sheet.Set sheet) ⌝ }
+    ensures answers { λ r. ⌜ ((cs : History) → Reaches cs (Sheet.Set sheet) → outcome-tells (r .1) ≡ told-after cs (call-of call)) ⌝ }
+    ensures reaches { λ r. ⌜ ((cs : History) → Reaches cs (Sheet.Set sheet) → Reaches (cs ++ call-of call ∷ []) (r .0)) ⌝ }
+    ensures refused { λ r. ⌜ (isSome (outcome-tells (r .1)) ≡ true → r .0 ≡ Sheet.Set sheet) ⌝ }
 {
     match call {
         SheetCall::Reopen => (Sheet::Open(sheet.reopen()), Outcome::Done),
@@ -76,9 +76,9 @@ impl Sheet {
 
     // Makes a call, whatever state the sheet is in.
     pub fn call(self, call: SheetCall) -> (Sheet, Outcome)
-        ensures answers { λ r. ⌜ ((cs : History) → Reaches cs self → outcomeTells (r .1) ≡ toldAfter cs (callOf call)) ⌝ }
-        ensures reaches { λ r. ⌜ ((cs : History) → Reaches cs self → Reaches (cs ++ callOf call ∷ []) (r .0)) ⌝ }
-        ensures refused { λ r. ⌜ (isSome (outcomeTells (r .1)) ≡ true → r .0 ≡ self) ⌝ }
+        ensures answers { λ r. ⌜ ((cs : History) → Reaches cs self → outcome-tells (r .1) ≡ told-after cs (call-of call)) ⌝ }
+        ensures reaches { λ r. ⌜ ((cs : History) → Reaches cs self → Reaches (cs ++ call-of call ∷ []) (r .0)) ⌝ }
+        ensures refused { λ r. ⌜ (isSome (outcome-tells (r .1)) ≡ true → r .0 ≡ self) ⌝ }
     {
         match self {
             Sheet::Open(sheet) => call_open(sheet, call),
@@ -88,8 +88,8 @@ impl Sheet {
 
     // The mark of a place; out for a number past the last place.
     pub fn mark_at(&self, place: u32) -> Mark
-        ensures shows { λ r. ⌜ r ≡ shownOn (now (self .entry)) place ⌝ }
-        ensures answers { λ r. ⌜ ((cs : History) → Reaches cs (now (self .entry)) → r ≡ markAfter (fitting cs) place) ⌝ }
+        ensures shows { λ r. ⌜ r ≡ shown-on (now (self .entry)) place ⌝ }
+        ensures answers { λ r. ⌜ ((cs : History) → Reaches cs (now (self .entry)) → r ≡ mark-after (fitting cs) place) ⌝ }
     {
         match self {
             Sheet::Open(sheet) => sheet.mark_at(place),

@@ -12,31 +12,31 @@ use Rattle.std.specs.declared.option.Option.the-variants.{None}
 use Rattle.std.proofs.shelf.Lists.{take-all, take-take, take-append-le, length-push, length-take-le}
 use Rattle.std.proofs.shelf.Tests.{cond-false, cond-both, cases-lt, cases-eq, ne-eqb, true≢false}
 use Rattle.sheet.specs.declared.mark.Mark.{Mark}
-use Rattle.sheet.specs.Numbers.{markNumbered}
-use Rattle.sheet.specs.Model.{Call, marking, undoing, setting, reopening, asking, History, Note, Model, lastMark, withoutLast, refusal, done, after, model, markAfter}
+use Rattle.sheet.specs.Numbers.{mark-numbered}
+use Rattle.sheet.specs.Model.{Call, marking, undoing, setting, reopening, asking, History, Note, Model, last-mark, without-last, refusal, done, after, model, mark-after}
 use Rattle.sheet.specs.Laws.{Taken, Leaves, Unmarked}
-use Rattle.sheet.proofs.Notes.{lastMark-push, after-done}
+use Rattle.sheet.proofs.Notes.{last-mark-push, after-done}
 use Rattle.sheet.proofs.Agreeing.{undone-marking}
 use Rattle.sheet.proofs.Refusing.{taken-undoing, refused-empty}
 
 -- Undo cannot reach the first b notes, and however many are undone down to there, the place keeps its mark.
 record Settled (b : ℕ) (kept : Mark) (p : ℕ) (m : Model) : Type 0 where
   reach : b + m .h ≤ length (m .notes)
-  keeps : (n : ℕ) → b ≤ n → lastMark (take n (m .notes)) p ≡ kept
+  keeps : (n : ℕ) → b ≤ n → last-mark (take n (m .notes)) p ≡ kept
 
 module _ (b : ℕ) (kept : Mark) (p : ℕ) where
   settled-marking : (m : Model) (q k : ℕ) → (q ≡ p → ⊥) → Settled b kept p m → Settled b kept p (done {Q = Unit {0}} m (marking q k))
   settled-marking m q k other s =
-      let n : Note = record { place = q; mark = markNumbered k } in
+      let n : Note = record { place = q; mark = mark-numbered k } in
       let ns = m .notes in
       record {
         reach = omega (arith, s .reach, length-push ns n);
         keeps = λ i from. ⊎-elim
-            (λ (short : i < length ns + 1). ap (λ (l : List Note). lastMark l p) (take-append-le i ns (n ∷ []) (omega arith)) ∙ s .keeps i from)
+            (λ (short : i < length ns + 1). ap (λ (l : List Note). last-mark l p) (take-append-le i ns (n ∷ []) (omega arith)) ∙ s .keeps i from)
             (λ (long : length ns + 1 ≤ i).
-            ap (λ (l : List Note). lastMark l p) (take-all i (ns ++ n ∷ []) (omega (arith, length-push ns n)))
-            ∙ lastMark-push ns n p ∙ cond-false _ _ _ (ne-eqb _ _ other)
-            ∙ ap (λ (l : List Note). lastMark l p) (sym (take-all i ns (omega arith))) ∙ s .keeps i from)
+            ap (λ (l : List Note). last-mark l p) (take-all i (ns ++ n ∷ []) (omega (arith, length-push ns n)))
+            ∙ last-mark-push ns n p ∙ cond-false _ _ _ (ne-eqb _ _ other)
+            ∙ ap (λ (l : List Note). last-mark l p) (sym (take-all i ns (omega arith))) ∙ s .keeps i from)
             (cases-lt i (length ns + 1));
       }
 
@@ -48,8 +48,8 @@ module _ (b : ℕ) (kept : Mark) (p : ℕ) where
       record {
         reach = omega (arith, s .reach, short);
         keeps = λ i from. ⊎-elim
-            (λ (few : i < length ns - 1). ap (λ (l : List Note). lastMark l p) (take-take i (length ns - 1) ns (omega arith)) ∙ s .keeps i from)
-            (λ (many : length ns - 1 ≤ i). ap (λ (l : List Note). lastMark l p) (take-all i (take (length ns - 1) ns) (omega (arith, short))) ∙ s .keeps (length ns - 1) (omega (arith, s .reach)))
+            (λ (few : i < length ns - 1). ap (λ (l : List Note). last-mark l p) (take-take i (length ns - 1) ns (omega arith)) ∙ s .keeps i from)
+            (λ (many : length ns - 1 ≤ i). ap (λ (l : List Note). last-mark l p) (take-all i (take (length ns - 1) ns) (omega (arith, short))) ∙ s .keeps (length ns - 1) (omega (arith, s .reach)))
             (cases-lt i (length ns - 1));
       }
 
@@ -72,40 +72,40 @@ module _ (b : ℕ) (kept : Mark) (p : ℕ) where
   settled-all m [] other s = s
   settled-all m (c ∷ cs) other s = settled-all (after m c) cs (other .1) (settled-after m c (other .0) s)
 
-settled-mark : (b : ℕ) (kept : Mark) (p : ℕ) (m : Model) → Settled b kept p m → lastMark (m .notes) p ≡ kept
-settled-mark b kept p m s = ap (λ (l : List Note). lastMark l p) (sym (take-all (length (m .notes)) (m .notes) (omega arith))) ∙ s .keeps (length (m .notes)) (omega (arith, s .reach))
+settled-mark : (b : ℕ) (kept : Mark) (p : ℕ) (m : Model) → Settled b kept p m → last-mark (m .notes) p ≡ kept
+settled-mark b kept p m s = ap (λ (l : List Note). last-mark l p) (sym (take-all (length (m .notes)) (m .notes) (omega arith))) ∙ s .keeps (length (m .notes)) (omega (arith, s .reach))
 
 folded-append : (m : Model) (cs ds : History) → folded after m (cs ++ ds) ≡ folded after (folded after m cs) ds
 folded-append m [] ds = refl
 folded-append m (c ∷ cs) ds = folded-append (after m c) cs ds
 
 -- whatever follows a setting, a place that is not marked again keeps its mark
-pub kept-by-setting : (cs later : History) (p : ℕ) → Unmarked p later → markAfter (cs ++ setting ∷ later) p ≡ markAfter cs p
+pub kept-by-setting : (cs later : History) (p : ℕ) → Unmarked p later → mark-after (cs ++ setting ∷ later) p ≡ mark-after cs p
 kept-by-setting cs later p other =
     let m : Model = record { notes = model cs .notes; h = 0 } in
     let b = length (m .notes) in
-    let start : Settled b (markAfter cs p) p m = record {
+    let start : Settled b (mark-after cs p) p m = record {
       reach = omega arith;
-      keeps = λ n from. ap (λ (l : List Note). lastMark l p) (take-all n (m .notes) from);
+      keeps = λ n from. ap (λ (l : List Note). last-mark l p) (take-all n (m .notes) from);
     } in
-    ap (λ (x : Model). lastMark (x .notes) p) (folded-append _ cs (setting ∷ later))
-    ∙ settled-mark b (markAfter cs p) p _ (settled-all b (markAfter cs p) p m later other start)
+    ap (λ (x : Model). last-mark (x .notes) p) (folded-append _ cs (setting ∷ later))
+    ∙ settled-mark b (mark-after cs p) p _ (settled-all b (mark-after cs p) p m later other start)
 
 unmarked-push : (p : ℕ) (cs : History) (c : Call (Unit {0})) → Unmarked p cs → Leaves p c → Unmarked p (cs ++ c ∷ [])
 unmarked-push p [] c other last = (last, tt)
 unmarked-push p (x ∷ cs) c other last = (other .0, unmarked-push p cs c (other .1) last)
 
 -- one undo more does not reach past the setting either
-pub undone-since-setting : (cs later : History) (p : ℕ) → Unmarked p later → markAfter ((cs ++ setting ∷ later) ++ undoing ∷ []) p ≡ markAfter cs p
+pub undone-since-setting : (cs later : History) (p : ℕ) → Unmarked p later → mark-after ((cs ++ setting ∷ later) ++ undoing ∷ []) p ≡ mark-after cs p
 undone-since-setting cs later p other =
-    ap (λ (l : History). markAfter l p) (append-assoc cs (setting ∷ later) (undoing ∷ []))
+    ap (λ (l : History). mark-after l p) (append-assoc cs (setting ∷ later) (undoing ∷ []))
     ∙ kept-by-setting cs (later ++ undoing ∷ []) p (unmarked-push p later undoing other tt)
 
 -- a marking that is undone leaves every mark as it was
-pub undone-marking-marks : (cs : History) (p k q : ℕ) → Taken cs (marking p k) → markAfter ((cs ++ marking p k ∷ []) ++ undoing ∷ []) q ≡ markAfter cs q
+pub undone-marking-marks : (cs : History) (p k q : ℕ) → Taken cs (marking p k) → mark-after ((cs ++ marking p k ∷ []) ++ undoing ∷ []) q ≡ mark-after cs q
 undone-marking-marks cs p k q taken =
     let marked = after-done cs (marking p k) taken in
     let some : model (cs ++ marking p k ∷ []) .h ≡ model cs .h + 1 = ap (λ (m : Model). m .h) marked in
-    ap (λ (m : Model). lastMark (m .notes) q)
+    ap (λ (m : Model). last-mark (m .notes) q)
     (after-done (cs ++ marking p k ∷ []) undoing (taken-undoing (model (cs ++ marking p k ∷ [])) (λ (none : model (cs ++ marking p k ∷ []) .h ≡ 0). omega arith))
     ∙ ap (λ (m : Model). done {Q = Unit {0}} m undoing) marked ∙ undone-marking (model cs) p k)

@@ -3,11 +3,11 @@ use Prim.Native.Nat.{ℕ}
 use mathlib.Core.Path.{_≡_}
 use mathlib.Core.List.{List, [], _∷_}
 use Rattle.std.specs.declared.option.Option.the-variants.{None}
-use Rattle.sheet.specs.Model.{Call, marking, undoing, setting, reopening, asking, History, refusalAfter}
+use Rattle.sheet.specs.Model.{Call, marking, undoing, setting, reopening, asking, History, refusal-after}
 
 -- the call is done, not refused, after the history
 abbrev pub Taken : History → Call (Unit {0}) → Type 0
-Taken cs c = refusalAfter cs c ≡ None
+Taken cs c = refusal-after cs c ≡ None
 
 -- the call does not mark the place
 abbrev pub Leaves : ℕ → Call (Unit {0}) → Type 0

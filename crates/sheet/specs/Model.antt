@@ -10,7 +10,7 @@ use Rattle.std.specs.declared.option.Option.{Option}
 use Rattle.std.specs.declared.option.Option.the-variants.{Some, None}
 use Rattle.sheet.specs.declared.mark.Mark.{Mark}
 use Rattle.sheet.specs.declared.mark.Mark.the-variants.{Out}
-use Rattle.sheet.specs.Numbers.{markNumbered, Refusal, refusedBy}
+use Rattle.sheet.specs.Numbers.{mark-numbered, Refusal, refused-by}
 
 -- A call on a sheet with its arguments. An ask carries a question of some type Q, which the model never looks at.
 pub data Call (Q : Type 0) : Type 0 where
@@ -39,25 +39,25 @@ abbrev pub blank : Model
 blank = record { notes = []; h = 0 }
 
 -- the mark of the last note for a place, else out
-abbrev pub lastMark : List Note → ℕ → Mark
-lastMark ns p = folded (λ m n. cond (eqb (n .place) p) (n .mark) m) Out ns
+abbrev pub last-mark : List Note → ℕ → Mark
+last-mark ns p = folded (λ m n. cond (eqb (n .place) p) (n .mark) m) Out ns
 
 -- the notes but the last
-abbrev pub withoutLast : List Note → List Note
-withoutLast ns = take (length ns - 1) ns
+abbrev pub without-last : List Note → List Note
+without-last ns = take (length ns - 1) ns
 
 -- by what a call is refused, if it is
 abbrev pub refusal : {Q : Type 0} → Model → Call Q → Option Refusal
-refusal m (marking p k) = cond (ltb 1023 p) (Some (refusedBy 11)) (cond (ltb 2 k) (Some (refusedBy 12)) (cond (eqb (m .h) 256) (Some (refusedBy 13)) None))
-refusal m undoing = cond (eqb (m .h) 0) (Some (refusedBy 14)) None
+refusal m (marking p k) = cond (ltb 1023 p) (Some (refused-by 11)) (cond (ltb 2 k) (Some (refused-by 12)) (cond (eqb (m .h) 256) (Some (refused-by 13)) None))
+refusal m undoing = cond (eqb (m .h) 0) (Some (refused-by 14)) None
 refusal m setting = None
 refusal m reopening = None
 refusal m (asking q) = None
 
 -- the model after a call that is not refused
 abbrev pub done : {Q : Type 0} → Model → Call Q → Model
-done m (marking p k) = record { notes = m .notes ++ record { place = p; mark = markNumbered k } ∷ []; h = m .h + 1 }
-done m undoing = record { notes = withoutLast (m .notes); h = m .h - 1 }
+done m (marking p k) = record { notes = m .notes ++ record { place = p; mark = mark-numbered k } ∷ []; h = m .h + 1 }
+done m undoing = record { notes = without-last (m .notes); h = m .h - 1 }
 done m setting = record { notes = m .notes; h = 0 }
 done m reopening = record { notes = m .notes; h = 0 }
 done m (asking q) = m
@@ -71,9 +71,9 @@ abbrev pub model : {Q : Type 0} → List (Call Q) → Model
 model cs = folded after blank cs
 
 -- by what a call is refused after a list of calls, if it is
-abbrev pub refusalAfter : {Q : Type 0} → List (Call Q) → Call Q → Option Refusal
-refusalAfter cs c = refusal (model cs) c
+abbrev pub refusal-after : {Q : Type 0} → List (Call Q) → Call Q → Option Refusal
+refusal-after cs c = refusal (model cs) c
 
 -- the mark of a place after a list of calls
-abbrev pub markAfter : {Q : Type 0} → List (Call Q) → ℕ → Mark
-markAfter cs p = lastMark (model cs .notes) p
+abbrev pub mark-after : {Q : Type 0} → List (Call Q) → ℕ → Mark
+mark-after cs p = last-mark (model cs .notes) p

@@ -7,7 +7,7 @@ ghost use mathlib.Core.List.{List, [], _∷_, _++_};
 ghost use Rattle.std.specs.Results.{isErr};
 ghost use Rattle.sheet.specs.declared.mark.Mark.the-variants.{Out};
 ghost use Rattle.sheet.specs.Laws.{Taken, Unmarked};
-ghost use Rattle.sheet.specs.Model.{History, marking, undoing, setting, reopening, refusalAfter, markAfter};
+ghost use Rattle.sheet.specs.Model.{History, marking, undoing, setting, reopening, refusal-after, mark-after};
 ghost use Rattle.sheet.specs.Numbers.{told};
 ghost use Rattle.sheet.specs.Reached.{Reached, ReachedSet};
 ghost use Rattle.sheet.specs.Shown.{shown};
@@ -45,7 +45,7 @@ impl OpenSheet {
 
     // Gives a place a mark; both are any numbers that a caller hands in.
     pub fn mark(&mut self, place: u32, mark: u32) -> Result<(), SheetFault>
-        ensures answers { λ r. ⌜ ((cs : History) → Reached cs (now (self .entry)) → told r ≡ refusalAfter cs (marking place mark)) ⌝ }
+        ensures answers { λ r. ⌜ ((cs : History) → Reached cs (now (self .entry)) → told r ≡ refusal-after cs (marking place mark)) ⌝ }
         ensures reached { λ r. ⌜ ((cs : History) → Reached cs (now (self .entry)) → Reached (cs ++ marking place mark ∷ []) (now (self .exit))) ⌝ }
         ensures refused { λ r. ⌜ (isErr r ≡ true → now (self .exit) ≡ now (self .entry)) ⌝ }
     {
@@ -63,11 +63,11 @@ impl OpenSheet {
 
     // Takes the latest marking back.
     pub fn undo(&mut self) -> Result<(), SheetFault>
-        ensures answers { λ r. ⌜ ((cs : History) → Reached cs (now (self .entry)) → told r ≡ refusalAfter cs undoing) ⌝ }
+        ensures answers { λ r. ⌜ ((cs : History) → Reached cs (now (self .entry)) → told r ≡ refusal-after cs undoing) ⌝ }
         ensures reached { λ r. ⌜ ((cs : History) → Reached cs (now (self .entry)) → Reached (cs ++ undoing ∷ []) (now (self .exit))) ⌝ }
         ensures refused { λ r. ⌜ (isErr r ≡ true → now (self .exit) ≡ now (self .entry)) ⌝ }
-        ensures takes_back { λ r. ⌜ ((cs : History) (p k : ℕ) → Taken cs (marking p k) → Reached (cs ++ marking p k ∷ []) (now (self .entry)) → (q : ℕ) → shown (now (self .exit) .marks) q ≡ markAfter cs q) ⌝ }
-        ensures stops_at_setting { λ r. ⌜ ((cs later : History) (q : ℕ) → Unmarked q later → Reached (cs ++ setting ∷ later) (now (self .entry)) → shown (now (self .exit) .marks) q ≡ markAfter cs q) ⌝ }
+        ensures takes_back { λ r. ⌜ ((cs : History) (p k : ℕ) → Taken cs (marking p k) → Reached (cs ++ marking p k ∷ []) (now (self .entry)) → (q : ℕ) → shown (now (self .exit) .marks) q ≡ mark-after cs q) ⌝ }
+        ensures stops_at_setting { λ r. ⌜ ((cs later : History) (q : ℕ) → Unmarked q later → Reached (cs ++ setting ∷ later) (now (self .entry)) → shown (now (self .exit) .marks) q ≡ mark-after cs q) ⌝ }
     {
         let step = self.trail.pop()?;
         self.marks.put(step.place, step.before);
@@ -77,7 +77,7 @@ impl OpenSheet {
     // The mark of a place; out for a number past the last place.
     pub fn mark_at(&self, place: u32) -> Mark
         ensures shows { λ r. ⌜ r ≡ shown (now (self .entry) .marks) place ⌝ }
-        ensures answers { λ r. ⌜ ((cs : History) → Reached cs (now (self .entry)) → r ≡ markAfter cs place) ⌝ }
+        ensures answers { λ r. ⌜ ((cs : History) → Reached cs (now (self .entry)) → r ≡ mark-after cs place) ⌝ }
     {
         self.marks.at(place)
     }
@@ -96,7 +96,7 @@ impl SetSheet {
     // The mark of a place; out for a number past the last place.
     pub fn mark_at(&self, place: u32) -> Mark
         ensures shows { λ r. ⌜ r ≡ shown (now (self .entry) .marks) place ⌝ }
-        ensures answers { λ r. ⌜ ((cs : History) → ReachedSet cs (now (self .entry)) → r ≡ markAfter cs place) ⌝ }
+        ensures answers { λ r. ⌜ ((cs : History) → ReachedSet cs (now (self .entry)) → r ≡ mark-after cs place) ⌝ }
     {
         self.marks().at(place)
     }
@@ -104,7 +104,7 @@ impl SetSheet {
     // All marks at once, which only a set sheet shows: what an ask reads.
     pub fn marks(&self) -> &Marks
         ensures same { λ r. ⌜ now r ≡ now (self .entry) .marks ⌝ }
-        ensures answers { λ r. ⌜ ((cs : History) (p : ℕ) → ReachedSet cs (now (self .entry)) → shown (now r) p ≡ markAfter cs p) ⌝ }
+        ensures answers { λ r. ⌜ ((cs : History) (p : ℕ) → ReachedSet cs (now (self .entry)) → shown (now r) p ≡ mark-after cs p) ⌝ }
     {
         &self.marks
     }

@@ -7,7 +7,7 @@ use Rattle.std.proofs.shelf.Tests.{false≢true}
 use Rattle.sheet.specs.declared.trail.Step.{Step}
 use Rattle.sheet.specs.declared.trail.Trail.{Trail}
 use Rattle.sheet.specs.declared.sheet.OpenSheet.{OpenSheet}
-use Rattle.sheet.specs.Numbers.{refusedBy}
+use Rattle.sheet.specs.Numbers.{refused-by}
 use Rattle.sheet.specs.Model.{marking, model}
 use Rattle.sheet.specs.Shown.{shown}
 use Rattle.sheet.specs.Undo.{undoes}
@@ -23,7 +23,7 @@ returns-in-Break-target c =
     let fault = c .in-Break-target .ensures tt in
     record {
       answers = λ cs a. told-exit (c .from-residual .result) _ (c .from-residual .ensures .1) (fault .0) ∙ sym (refused-place (model cs) p k (fault .1));
-      reached = λ cs a. still-agrees cs (marking p k) (refusedBy 11) _ _ (refused-place (model cs) p k (fault .1)) a;
+      reached = λ cs a. still-agrees cs (marking p k) (refused-by 11) _ _ (refused-place (model cs) p k (fault .1)) a;
       refused = λ _. refl;
     }
 
@@ -35,7 +35,7 @@ returns-in-Break-given c =
     let near : p ≤ 1023 = omega (arith, c .in-Continue-target .ensures tt, c .in-Continue-target .target .«on_sheet») in
     record {
       answers = λ cs a. told-exit (c .from-residual-in-Break-given .result) _ (c .from-residual-in-Break-given .ensures .1) (fault .0) ∙ sym (refused-mark (model cs) p k near (fault .1));
-      reached = λ cs a. still-agrees cs (marking p k) (refusedBy 12) _ _ (refused-mark (model cs) p k near (fault .1)) a;
+      reached = λ cs a. still-agrees cs (marking p k) (refused-by 12) _ _ (refused-mark (model cs) p k near (fault .1)) a;
       refused = λ _. refl;
     }
 
@@ -53,7 +53,7 @@ returns-in-Break-push c =
           ∙ sym (refused-full (model cs) p k near small (sym (agrees-height (model cs) _ _ a) ∙ fault .1));
       reached = λ cs a.
           subst (λ (t : Trail). Agrees (model (cs ++ marking p k ∷ [])) (shown marks) (undoes t)) (sym (fault .2))
-          (still-agrees cs (marking p k) (refusedBy 13) _ _ (refused-full (model cs) p k near small (sym (agrees-height (model cs) _ _ a) ∙ fault .1)) a);
+          (still-agrees cs (marking p k) (refused-by 13) _ _ (refused-full (model cs) p k near small (sym (agrees-height (model cs) _ _ a) ∙ fault .1)) a);
       refused = λ _. ap (λ (t : Trail). record { marks = marks; trail = t }) (fault .2);
     }
 

@@ -8,8 +8,8 @@ use Rattle.std.proofs.shelf.Tests.{false≢true}
 use Rattle.sheet.specs.declared.trail.Step.{Step}
 use Rattle.sheet.specs.declared.trail.Trail.{Trail}
 use Rattle.sheet.specs.declared.sheet.OpenSheet.{OpenSheet}
-use Rattle.sheet.specs.Numbers.{refusedBy}
-use Rattle.sheet.specs.Model.{History, marking, undoing, setting, model, markAfter}
+use Rattle.sheet.specs.Numbers.{refused-by}
+use Rattle.sheet.specs.Model.{History, marking, undoing, setting, model, mark-after}
 use Rattle.sheet.specs.Laws.{Taken, Unmarked}
 use Rattle.sheet.specs.Shown.{shown}
 use Rattle.sheet.specs.Undo.{undoes}
@@ -23,12 +23,12 @@ use Rattle.sheet.proofs.sheet.OpenSheet.undo.Needs as need
 Goes-on : OpenSheet → OpenSheet → Type 0
 Goes-on s t = (cs : History) → Reached cs s → Reached (cs ++ undoing ∷ []) t
 
-takes-back : (s t : OpenSheet) → Goes-on s t → (cs : History) (p k : ℕ) → Taken cs (marking p k) → Reached (cs ++ marking p k ∷ []) s → (q : ℕ) → shown (t .marks) q ≡ markAfter cs q
+takes-back : (s t : OpenSheet) → Goes-on s t → (cs : History) (p k : ℕ) → Taken cs (marking p k) → Reached (cs ++ marking p k ∷ []) s → (q : ℕ) → shown (t .marks) q ≡ mark-after cs q
 unfolding Goes-on
 takes-back s t on cs p k taken a q =
     agrees-shows (model ((cs ++ marking p k ∷ []) ++ undoing ∷ [])) (shown (t .marks)) (undoes (t .trail)) (on (cs ++ marking p k ∷ []) a) q ∙ undone-marking-marks cs p k q taken
 
-stops-at-setting : (s t : OpenSheet) → Goes-on s t → (cs later : History) (q : ℕ) → Unmarked q later → Reached (cs ++ setting ∷ later) s → shown (t .marks) q ≡ markAfter cs q
+stops-at-setting : (s t : OpenSheet) → Goes-on s t → (cs later : History) (q : ℕ) → Unmarked q later → Reached (cs ++ setting ∷ later) s → shown (t .marks) q ≡ mark-after cs q
 unfolding Goes-on
 stops-at-setting s t on cs later q other a =
     agrees-shows (model ((cs ++ setting ∷ later) ++ undoing ∷ [])) (shown (t .marks)) (undoes (t .trail)) (on (cs ++ setting ∷ later) a) q ∙ undone-since-setting cs later q other
@@ -41,7 +41,7 @@ unfolding Goes-on
 refused-goes-on c cs a =
     let fault = c .in-Break-step .ensures tt in
     subst (λ (t : Trail). Agrees (model (cs ++ undoing ∷ [])) (shown (c .args .self .now .marks)) (undoes t)) (sym (fault .2))
-    (still-agrees cs undoing (refusedBy 14) _ _ (refused-empty (model cs) (sym (agrees-height (model cs) _ _ a) ∙ ap length (fault .1))) a)
+    (still-agrees cs undoing (refused-by 14) _ _ (refused-empty (model cs) (sym (agrees-height (model cs) _ _ a) ∙ ap length (fault .1))) a)
 
 pub returns-in-Break-step : need.returns-in-Break-step
 unfolding Goes-on
