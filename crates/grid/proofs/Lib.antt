@@ -13,3 +13,4 @@ pub mod Outcomes
 pub mod Theorems
 pub mod Widths
 pub mod Examples
+pub mod Apart

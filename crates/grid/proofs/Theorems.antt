@@ -15,6 +15,7 @@ use Rattle.grid.proofs.Ties.{nearest-of}
 use Rattle.grid.proofs.Distances.{close}
 use Rattle.grid.proofs.Monotone as Monotone
 use Rattle.grid.proofs.Outcomes as Outcomes
+use Rattle.grid.proofs.Apart as Apart
 
 -- the modes toward 0 and away from 0 are downward or upward, by the sign
 down-toward : (u : ℤ → ℤ) (x : Dyadic) → is-negative (x .count) ≡ false → rounded u downward x .value ≡ rounded u toward-zero x .value
@@ -55,6 +56,9 @@ module _ (u : ℤ → ℤ) (W : ℕ) (L : Lawful u W) where
 
   pub between : Claims.Between u
   between = Monotone.between u (laws-everywhere u W L)
+
+  pub apart : Claims.Apart u
+  apart = Apart.apart u (laws-everywhere u W L)
 
   pub exact : Claims.Exact u
   exact = Outcomes.exact u

@@ -45,6 +45,10 @@ Monotone u = (m : Mode) (x y : Dyadic) → x ≤ᴰ y → rounded u m x .value �
 abbrev pub Between : (ℤ → ℤ) → Type 0
 Between u = (m : Mode) (a x b : Dyadic) → a ≤ᴰ x → x ≤ᴰ b → Alike (rounded u m a) (rounded u m b) → Alike (rounded u m x) (rounded u m a)
 
+-- two numbers on both sides of a grid number do not round alike
+abbrev pub Apart : (ℤ → ℤ) → Type 0
+Apart u = (m : Mode) (a p b : Dyadic) → OnGrid u p → a <ᴰ p → p <ᴰ b → ¬ Alike (rounded u m a) (rounded u m b)
+
 -- a number of the grid rounds to itself
 abbrev pub Exact : (ℤ → ℤ) → Type 0
 Exact u = (m : Mode) (x : Dyadic) → OnGrid u x → (rounded u m x .value ≡ x) × (rounded u m x .direction ≡ pos 0)

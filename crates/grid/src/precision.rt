@@ -3,7 +3,7 @@ ghost use mathlib.Core.Path.{_≡_};
 ghost use Prim.Native.Nat.{_≤_};
 ghost use Rattle.exact.specs.Integers.{gap};
 ghost use Rattle.grid.specs.Spacing.{nearest-end};
-ghost use Rattle.grid.specs.Claims.{Neighbours, Right, Distance, Monotone, Between, Exact, Enclosure, Direction, Sign, Congruent, Digits};
+ghost use Rattle.grid.specs.Claims.{Neighbours, Right, Distance, Monotone, Between, Apart, Exact, Enclosure, Direction, Sign, Congruent, Digits};
 use crate::interface::Grid;
 use crate::interface::nearest_end;
 
@@ -27,6 +27,7 @@ pub fn precision_at<G: Grid>(g: &G, e: i32) -> u32
     ensures distance { λ _. ⌜ Distance (spacing (now (g .entry))) ⌝ }
     ensures monotone { λ _. ⌜ Monotone (spacing (now (g .entry))) ⌝ }
     ensures between { λ _. ⌜ Between (spacing (now (g .entry))) ⌝ }
+    ensures apart { λ _. ⌜ Apart (spacing (now (g .entry))) ⌝ }
     ensures exact { λ _. ⌜ Exact (spacing (now (g .entry))) ⌝ }
     ensures enclosure { λ _. ⌜ Enclosure (spacing (now (g .entry))) ⌝ }
     ensures direction { λ _. ⌜ Direction (spacing (now (g .entry))) ⌝ }

@@ -28,6 +28,7 @@ returns g c =
       distance = theorems.distance u W L;
       monotone = theorems.monotone u W L;
       between = theorems.between u W L;
+      apart = theorems.apart u W L;
       exact = theorems.exact u W L;
       enclosure = theorems.enclosure u W L;
       direction = theorems.direction u W L;

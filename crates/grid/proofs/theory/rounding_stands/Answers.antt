@@ -10,6 +10,7 @@ returns c = record {
   distance = theorems.distance;
   monotone = theorems.monotone;
   between = theorems.between;
+  apart = theorems.apart;
   exact = theorems.exact;
   enclosure = theorems.enclosure;
   direction = theorems.direction;
