@@ -13,6 +13,7 @@ pub record Row : Type 0 where
   pub width : ℕ
   pub floor : ℤ
 
+-- a row of the table
 abbrev pub row : ℕ → ℤ → Row
 row p f = record { width = p; floor = f }
 

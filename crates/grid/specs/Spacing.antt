@@ -5,13 +5,15 @@ use lib.IntN.{ℤ, pos, negℤ, _+ℤ_, _-ℤ_}
 use lib.Signed.{_≤ℤ_, _<ℤ_}
 use Rattle.std.specs.Numbers.{maxZ, minZ}
 
--- the exponents in question
+-- the exponents in question: the lowest
 abbrev pub lowest : ℤ
 lowest = negℤ (pos 2000000000)
 
+-- and the highest
 abbrev pub highest : ℤ
 highest = pos 2000000000
 
+-- e is one of them
 pub record InRange (e : ℤ) : Type 0 where
   pub from : lowest ≤ℤ e
   pub upto : e ≤ℤ highest
@@ -33,7 +35,7 @@ pub record Lawful (u : ℤ → ℤ) (W : ℕ) : Type 0 where
   pub flat : (e : ℤ) → InRange e → e ≤ℤ u e → (f : ℤ) → f ≤ℤ (u e +ℤ pos 1) → u f ≡ u e
   -- no number has more than W digits
   pub narrow : (e : ℤ) → InRange e → (e -ℤ u e) ≤ℤ pos W
-  -- the spacing lies inside the range above
+  -- so the first number of the grid, where the spacing is flat, has an exponent in question
   pub below : (e : ℤ) → InRange e → u e <ℤ highest
   -- further out the spacing is that of the nearer end
   pub ends : (e : ℤ) → u e ≡ u (nearest-end e)
