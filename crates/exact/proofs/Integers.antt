@@ -1,8 +1,9 @@
 -- Order, signs and magnitudes of integers.
-use Prim.Native.Nat.{ℕ, zero, suc, _≤_, _<_}
+use Prim.Native.Nat.{ℕ, zero, suc, _+_, _≤_, _<_}
 use mathlib.Core.Path.{_≡_, refl}
+use mathlib.Core.Bool.{Bool, true, false}
 use native.Mathlib.Omega.{arith}
-use lib.IntN.{ℤ, pos, negsuc, negℤ, natAbs, _-ℤ_}
+use lib.IntN.{ℤ, pos, negsuc, negℤ, natAbs, _+ℤ_, _-ℤ_}
 use lib.Signed.{_≤ℤ_, _<ℤ_, leZ-yes}
 use borrow.Author.Differences.{ints}
 use Rattle.exact.specs.Integers.{sign, is-negative, signed}
@@ -28,6 +29,14 @@ abs-none x e = omega (arith, ints)
 pub signed-abs : (x : ℤ) → signed (is-negative x) (natAbs x) ≡ x
 signed-abs (pos n) = refl
 signed-abs (negsuc n) = refl
+
+pub signed-plus : (s : Bool) (a b : ℕ) → signed s (a + b) ≡ signed s a +ℤ signed s b
+signed-plus false a b = refl
+signed-plus true a b = omega (arith, ints)
+
+pub signed-within : (s : Bool) (a b : ℕ) → a ≤ b → (negℤ (pos b) ≤ℤ signed s a) × (signed s a ≤ℤ pos b)
+signed-within false a b h = (omega (arith, ints), omega (arith, ints))
+signed-within true a b h = (omega (arith, ints), omega (arith, ints))
 
 -- ---- signs
 pub sign-mono : (x y : ℤ) → x ≤ℤ y → sign x ≤ℤ sign y

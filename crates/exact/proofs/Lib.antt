@@ -7,3 +7,5 @@ pub mod Order
 pub mod Sums
 pub mod Exponents
 pub mod Limbs
+pub mod LowDigits
+pub mod LimbDigits

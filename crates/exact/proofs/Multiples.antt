@@ -1,9 +1,9 @@
 -- Multiples of a natural number d, above all of a power of two, on both sides of n.
-use Prim.Native.Nat.{ℕ, suc, _+_, _-_, _*_, _/_, _%_, _^_, _≤_, _<_}
+use Prim.Native.Nat.{ℕ, zero, suc, _+_, _-_, _*_, _/_, _%_, _^_, _≤_, _<_}
 use mathlib.Core.Path.{_≡_, sym, ap, _∙_}
 use native.Mathlib.Omega.{arith}
-use native.Mathlib.Nat.{le-div-iff-mul-le, div-lt-iff-lt-mul, div-add-mod', mul-mod-left, mul-assoc, lt-of-not-le, mod-eq-of-lt, div-mul-le-self, lt-div-mul-add, le-of-suc-le-suc, mul-le-mul-right}
-use lib.Pow.{pow-add}
+use native.Mathlib.Nat.{le-div-iff-mul-le, div-lt-iff-lt-mul, div-add-mod', mul-mod-left, mul-assoc, lt-of-not-le, mod-eq-of-lt, div-mul-le-self, lt-div-mul-add, le-of-suc-le-suc, mul-le-mul-right, mul-le-mul}
+use lib.Pow.{pow-pos, pow-add, pow-mono}
 
 pub pow-split : (a b : ℕ) → b ≤ a → 2 ^ a ≡ 2 ^ (a - b) * 2 ^ b
 pow-split a b h = ap (λ (x : ℕ). 2 ^ x) (let e : a ≡ a - b + b = omega arith in e) ∙ pow-add 2 (a - b) b
@@ -49,3 +49,12 @@ away-le n d g D e h =
 
 pub away-below : (n d : ℕ) → 0 < d → (n + (d - 1)) / d * d < n + d
 away-below n d D = omega (arith, div-mul-le-self (n + (d - 1)) d)
+
+-- ---- room below a power
+spare : (n d c t : ℕ) → 0 < d → t ≤ n * c → n * (d - 1) * c + t ≤ n * (d * c)
+spare n zero c t h l = absurd (omega arith)
+spare n (suc d) c t h l = let e : suc d - 1 ≡ d = omega arith in rw e (omega arith)
+
+-- n times 2 ^ g - 1 units of 2 ^ b, and k of 2 ^ a, are at most n of 2 ^ (g + b)
+pub room : (n k g b a : ℕ) → k ≤ n → a ≤ b → n * (2 ^ g - 1) * 2 ^ b + k * 2 ^ a ≤ n * 2 ^ (g + b)
+room n k g b a h l = rw (pow-add 2 g b) (spare n (2 ^ g) (2 ^ b) (k * 2 ^ a) (pow-pos g) (mul-le-mul h (pow-mono l)))

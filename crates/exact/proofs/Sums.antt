@@ -7,7 +7,7 @@ use lib.Signed.{_≤ℤ_}
 use borrow.Author.Differences.{ints}
 use Rattle.exact.specs.Integers.{gap, lesser}
 use Rattle.exact.specs.Dyadic.{Dyadic, dyadic, at, _≤ᴰ_, _≈ᴰ_, plus, negation, magnitude, distance, total}
-use Rattle.exact.proofs.Scaling.{scale-plus, scale-neg, scale-abs, lesser-low}
+use Rattle.exact.proofs.Scaling.{scale-plus, scale-neg, scale-abs, zero-scale, lesser-low}
 use Rattle.exact.proofs.Order.{at-le, le-at, same-at, at-at}
 
 pub at-plus : (z : ℤ) (x y : Dyadic) → z ≤ℤ x .weight → z ≤ℤ y .weight → at z (plus x y) ≡ at z x +ℤ at z y
@@ -66,6 +66,12 @@ plus-negation x =
     let e : at z (plus x (negation x)) ≡ pos 0 = at-plus z x (negation x) X X ∙ ap (λ (n : ℤ). at z x +ℤ n) (at-negation z x) ∙ omega (arith, ints) in
     same-at z (plus x (negation x)) (dyadic (pos 0) (pos 0)) (omega (arith, ints)) (omega (arith, ints)) (e ∙ omega (arith, ints))
 
+pub plus-zero : (x : Dyadic) (w : ℤ) → plus x (dyadic (pos 0) w) ≈ᴰ x
+plus-zero x w =
+    let z = lesser (x .weight) w in
+    let (h, g) = lesser-low (x .weight) w in
+    same-at z (plus x (dyadic (pos 0) w)) x (omega (arith, ints)) h (at-plus z x (dyadic (pos 0) w) h g ∙ ap (λ (n : ℤ). at z x +ℤ n) (zero-scale (gap w z)) ∙ omega (arith, ints))
+
 -- ---- a sum of many, at a weight below all of them
 abbrev pub BelowAll : ℤ → List Dyadic → Type 0
 BelowAll z [] = z ≤ℤ pos 0
@@ -74,6 +80,12 @@ BelowAll z (x ∷ xs) = (z ≤ℤ x .weight) × BelowAll z xs
 abbrev pub total-at : ℤ → List Dyadic → ℤ
 total-at z [] = pos 0
 total-at z (x ∷ xs) = at z x +ℤ total-at z xs
+
+-- a weight up to the sum's is up to all of them
+pub below-all : (z : ℤ) (xs : List Dyadic) → z ≤ℤ total xs .weight → BelowAll z xs
+unfolding total
+below-all z [] h = h
+below-all z (x ∷ xs) h = (omega (arith, ints), below-all z xs (omega (arith, ints)))
 
 pub total-above : (z : ℤ) (xs : List Dyadic) → BelowAll z xs → z ≤ℤ total xs .weight
 unfolding total

@@ -1,0 +1,3 @@
+pub mod Regulars
+pub mod Lookups
+pub mod Units

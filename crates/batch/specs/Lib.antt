@@ -1,0 +1,4 @@
+pub mod Term
+pub mod TermKinds
+pub mod Lookup
+pub mod Faults

@@ -1,0 +1,16 @@
+pub mod Units
+pub mod SignedSums
+pub mod Cuts
+pub mod Nesting
+pub mod Listing
+pub mod Chain
+pub mod Laws
+pub mod Depths
+pub mod Examples
+pub mod Counting
+pub mod Lookups
+pub mod Gathering
+pub mod Descent
+pub mod Walking
+pub mod SpannedColumns
+pub mod ListedDescent

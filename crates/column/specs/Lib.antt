@@ -1,0 +1,10 @@
+pub mod Parts
+pub mod PartsOf
+pub mod Columns
+pub mod Ends
+pub mod Depth
+pub mod Walk
+pub mod Claims
+pub mod Examples
+pub mod CountedTerms
+pub mod Gathering

@@ -1,0 +1,3 @@
+pub mod Places
+pub mod WordAnswers
+pub mod FloatBits

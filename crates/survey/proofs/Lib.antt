@@ -1,0 +1,2 @@
+pub mod Surveying
+pub mod Marked
