@@ -98,6 +98,7 @@ impl KindsCounted {
     fn add(&mut self, kind: Kind)
         ensures { λ _. ⌜ ((k : KindOf) → found (now (self .exit)) k ≡ cond (eqb (kind-number kind) (kind-number k)) true (found (now (self .entry)) k)) ⌝ }
     {
-        self.present[kind.number() as usize] = true;
+        let slot = kind.number() as usize;
+        self.present[slot] = true;
     }
 }
