@@ -1,20 +1,17 @@
 -- The list of the counted terms grows with each place as the parts do.
-use Prim.Native.Nat.{ℕ, suc, _+_, _≤_, _<_}
+use Prim.Native.Nat.{ℕ, suc, _+_, _<_}
 use mathlib.Core.Path.{_≡_, refl, sym, ap, ap₂, _∙_}
 use mathlib.Core.Bool.{Bool, true, false, not}
 use mathlib.Core.List.{List, [], _∷_, _++_, map, append-assoc, append-nil}
 use native.Mathlib.Omega.{arith}
-use native.Mathlib.Nat.{eq-zero-or-pos}
-use mathlib.Core.Logic.{inl, inr}
 use lib.IntN.{pos}
 use lib.ListN.{length, getD, take}
-use lib.Ieee.{size}
-use lib.Ieee.Digits.{size-le}
 use Rattle.std.specs.shelf.Lists.{All}
 use Rattle.std.proofs.shelf.Elements.{all-map, all-append}
 use Rattle.std.proofs.shelf.Lists.{take-more, getD-map, map-append, length-take-le}
 use Rattle.std.specs.declared.option.Option.{Option}
 use Rattle.std.specs.declared.option.Option.the-variants.{Some, None}
+use Rattle.exact.proofs.BitLength.{pos-of-size}
 use Rattle.batch.specs.Term.{Term, not-a-number, infinite, signed-zero, regular, Limited}
 use Rattle.batch.specs.TermKinds.{kind-of}
 use Rattle.batch.specs.Lookup.{kind-of-term}
@@ -112,17 +109,11 @@ module _ (ts : List Term) (marks : ℕ → Mark) (i : ℕ) (h : i < length ts) w
       ∙ sym (parts-more ∙ ap (λ (ps : List Part). parts-of marks (take i ts) ++ ps) n)
 
 -- ---- no part is 0
-some-digit : (m : ℕ) → 1 ≤ size m → 0 < m
-some-digit m h = elim (eq-zero-or-pos m) [
-  | inl e ↦ absurd (let z : size m ≤ 0 = rw e (size-le 0 0 (omega arith)) in omega arith)
-  | inr p ↦ p
-]
-
 regular-not-zero : (t : Term) → Limited t → Regular (regular-part t)
 regular-not-zero not-a-number l = tt
 regular-not-zero (infinite s) l = tt
 regular-not-zero (signed-zero s) l = tt
-regular-not-zero (regular s m q) l = (some-digit m (l .some-digit), tt)
+regular-not-zero (regular s m q) l = (pos-of-size m (l .some-digit), tt)
 
 counted-regular : (k : Mark) (t : Term) → Limited t → Regular (counted-part k t)
 counted-regular Out t l = tt

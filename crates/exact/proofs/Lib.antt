@@ -9,3 +9,9 @@ pub mod Exponents
 pub mod Limbs
 pub mod LowDigits
 pub mod LimbDigits
+pub mod Parts
+pub mod Shifts
+pub mod LimbBits
+pub mod LimbSteps
+pub mod Units
+pub mod IntegerParts

@@ -1,5 +1,6 @@
 pub mod Spacing
 pub mod Rounding
+pub mod Modes
 pub mod Neighbours
 pub mod Claims
 pub mod Examples

@@ -6,7 +6,8 @@ use mathlib.Core.List.{List, [], _∷_}
 use lib.Dec.{ltb, eqb}
 use lib.IntN.{pos, negℤ}
 use lib.Signed.{ltZ, _≤ℤ_}
-use lib.ListN.{length, getD}
+use lib.ListN.{length, getD, take}
+use Rattle.std.specs.shelf.Lists.{All}
 use Rattle.std.specs.declared.option.Option.{Option}
 use Rattle.std.specs.declared.option.Option.the-variants.{Some, None}
 use Rattle.batch.specs.Term.{most-terms, most-digits, farthest-top}
@@ -65,6 +66,17 @@ first-fault pool i (r ∷ rs) = fault-at i (record-fault pool r) (first-fault po
 -- why the records are refused, if they are
 abbrev pub opening-fault : List ℕ → List LimbRecord → Option BatchFault
 opening-fault pool rs = cond (ltb most-terms (length rs)) (Some TooManyTerms) (first-fault pool 0 rs)
+
+-- what the outcome of an opening tells of the records: the fault is that of a record, and no record before it has one
+pub record FirstFault (pool : List ℕ) (rs : List LimbRecord) (i : ℕ) (f : RecordFault) : Type 0 where
+  pub there : i < length rs
+  pub faulty : (d : LimbRecord) → record-fault pool (getD rs i d) ≡ Some f
+  pub first : All (λ r. record-fault pool r ≡ None) (take i rs)
+
+abbrev pub Told : List ℕ → List LimbRecord → Option BatchFault → Type 0
+Told pool rs None = (length rs ≤ most-terms) × All (λ r. record-fault pool r ≡ None) rs
+Told pool rs (Some TooManyTerms) = most-terms < length rs
+Told pool rs (Some (AtRecord i f)) = (length rs ≤ most-terms) × FirstFault pool rs i f
 
 -- what a regular record without a fault keeps to
 pub record Sound (pool : List ℕ) (r : LimbRecord) : Type 0 where

@@ -19,14 +19,14 @@ use batch::Batch;
 use batch::Kind;
 
 #[derive(Clone, Copy)]
-pub struct LimbBatch<'a> {
-    records: &'a [LimbRecord],
-    pool: &'a [u32],
+pub struct LimbBatch<'r, 'p> {
+    records: &'r [LimbRecord],
+    pool: &'p [u32],
     ghost faultless: { isSome (opening-fault (now pool) (now records)) ≡ false },
     ghost words: { Words (now pool) },
 }
 
-impl<'a> LimbBatch<'a> {
+impl<'r, 'p> LimbBatch<'r, 'p> {
     // Record i, if there is one and it is regular.
     fn regular_record(&self, i: usize) -> Option<&LimbRecord>
         ensures { λ r. ⌜ BySome r (kind-is-regular (kind-of-term (record-terms (now (now (self .entry) .pool)) (now (now (self .entry) .records))) i) ≡ false) (λ x. RegularAt (now (now (self .entry) .pool)) (now (now (self .entry) .records)) i (now x)) ⌝ }
@@ -39,7 +39,7 @@ impl<'a> LimbBatch<'a> {
     }
 }
 
-pub impl<'a> Batch for LimbBatch<'a> as LimbBatchBatch {
+pub impl<'r, 'p> Batch for LimbBatch<'r, 'p> as LimbBatchBatch {
     ghost terms = { λ b. record-terms (now (b .pool)) (now (b .records)) };
 
     ghost limited = { λ b. terms-batchable (now (b .pool)) (now (b .records)) (b .words) (b .faultless) };

@@ -17,7 +17,7 @@ use Rattle.std.proofs.shelf.Bits.{mod-below, mul-le}
 use Rattle.batch.specs.Term.{Term, most-terms}
 use Rattle.batch.specs.declared.fault.BatchFault.the-variants.{TooManyTerms}
 use Rattle.list_batch.specs.WordTerms.{asked}
-use Rattle.list_batch.specs.Lists.{LawfulRecord, flat, list-terms, list-fault}
+use Rattle.list_batch.specs.Lists.{LawfulRecord, flat, list-terms, list-fault, PartsInOrder}
 use Rattle.list_batch.specs.ListLimits.{length-flat}
 
 -- ---- the element at a place
@@ -60,19 +60,25 @@ module _ {X : Type 0} {width : ℕ} {parts : X → List Term} (laws : LawfulReco
       ap (nth (flat parts (x ∷ xs))) p ∙ nth-back (parts x) (flat parts xs) width (q * width + j) (laws .even x) ∙ part-place xs q j d h (omega arith)
 
   -- ---- term i is part i % t of record i / t
-  pub part-here : (xs : List X) (i t : ℕ) (d : X) (o : Option Term) → t ≡ width → i < most-terms → i / t < length xs → o ≡ nth (parts (getD xs (i / t) d)) (i % t) → o ≡ nth (list-terms parts xs) i
-  part-here xs i t d o e few l is =
+  flat-here : (xs : List X) (i t : ℕ) (d : X) → t ≡ width → i / t < length xs → nth (flat parts xs) i ≡ nth (parts (getD xs (i / t) d)) (i % t)
+  flat-here xs i t d e l =
       let some : 0 < t = rw e (laws .some) in
       let j : i % t < width = omega (arith, mod-below i t some) in
       let p : i / t * width + i % t ≡ i = rw (← e) (div-add-mod' i t) in
-      is ∙ sym (nth-take most-terms (flat parts xs) i few ∙ ap (nth (flat parts xs)) (sym p) ∙ part-place xs (i / t) (i % t) d j l)
+      ap (nth (flat parts xs)) (sym p) ∙ part-place xs (i / t) (i % t) d j l
+
+  pub part-here : (xs : List X) (i t : ℕ) (d : X) (o : Option Term) → t ≡ width → i < most-terms → i / t < length xs → o ≡ nth (parts (getD xs (i / t) d)) (i % t) → o ≡ nth (list-terms parts xs) i
+  part-here xs i t d o e few l is = is ∙ sym (nth-take most-terms (flat parts xs) i few ∙ flat-here xs i t d e l)
 
   -- ---- and none where there is no such record
-  pub part-past : (xs : List X) (i t : ℕ) (o : Option Term) → t ≡ width → length xs ≤ i / t → o ≡ None → o ≡ nth (list-terms parts xs) i
-  part-past xs i t o e l is =
+  past-flat : (xs : List X) (i t : ℕ) → t ≡ width → length xs ≤ i / t → length (flat parts xs) ≤ i
+  past-flat xs i t e l =
       let p : i / t * width + i % t ≡ i = rw (← e) (div-add-mod' i t) in
       let m : length xs * width ≤ i / t * width = mul-le (length xs) width (i / t) width l (omega arith) in
-      is ∙ sym (nth-past (list-terms parts xs) i (rw (length-take, length-flat laws xs) (omega arith)))
+      rw (length-flat laws xs) (omega arith)
+
+  pub part-past : (xs : List X) (i t : ℕ) (o : Option Term) → t ≡ width → length xs ≤ i / t → o ≡ None → o ≡ nth (list-terms parts xs) i
+  part-past xs i t o e l is = let h = past-flat xs i t e l in is ∙ sym (nth-past (list-terms parts xs) i (rw length-take (omega arith)))
 
   pub part-late : (xs : List X) (i : ℕ) (o : Option Term) → most-terms ≤ i → o ≡ None → o ≡ nth (list-terms parts xs) i
   part-late xs i o l is = is ∙ sym (nth-past (list-terms parts xs) i (rw length-take (omega arith)))
@@ -119,3 +125,12 @@ module _ {X : Type 0} {width : ℕ} {parts : X → List Term} (laws : LawfulReco
   -- so the product is small
   pub count-small : (xs : List X) (t : ℕ) → t ≡ width → length xs ≤ most-terms / t → length xs * t ≤ most-terms
   count-small xs t e h = rw (e, ← length-flat laws xs) (few-enough xs t e h)
+
+  -- ---- an opened batch has the parts of its records in their order
+  pub in-order : (xs : List X) (t : ℕ) → t ≡ width → length xs ≤ most-terms / t → PartsInOrder width parts xs (list-terms parts xs)
+  in-order xs t e h =
+      let whole = whole-list xs t e h in
+      record {
+        here = λ i d l. ap (λ (ts : List Term). nth ts i) whole ∙ flat-here xs i width d refl l;
+        past = λ i l. ap (λ (ts : List Term). nth ts i) whole ∙ nth-past (flat parts xs) i (past-flat xs i width refl l);
+      }

@@ -6,7 +6,7 @@ ghost use Rattle.std.specs.Results.{errPart};
 ghost use Rattle.std.specs.Vec.{made};
 ghost use Rattle.std.specs.shelf.Maps.{nth};
 ghost use Rattle.list_batch.specs.WordTerms.{spelled};
-ghost use Rattle.list_batch.specs.Lists.{flat, list-terms, list-fault};
+ghost use Rattle.list_batch.specs.Lists.{flat, list-terms, list-fault, PartsInOrder};
 ghost use Rattle.list_batch.specs.ListLimits.{list-batchable};
 use crate::record::Record;
 use crate::word_term::WordTerm;
@@ -21,9 +21,11 @@ pub struct ListBatch<'a, R: Record> {
 }
 
 impl<'a, R: Record> ListBatch<'a, R> {
+    // The batch of all terms of the records, unless they are too many.
     pub fn open(records: &'a [R]) -> Result<ListBatch<'a, R>, BatchFault>
         ensures refuses { λ r. ⌜ errPart r ≡ list-fault (length (flat (R·Record .parts) (now (records .entry)))) ⌝ }
         ensures means { λ r. ⌜ made r (λ b. list-terms (R·Record .parts) (now (b .records)) ≡ flat (R·Record .parts) (now (records .entry))) ⌝ }
+        ensures places { λ r. ⌜ made r (λ b. PartsInOrder (R·Record .width) (R·Record .parts) (now (records .entry)) (list-terms (R·Record .parts) (now (b .records)))) ⌝ }
     {
         if records.len() > MOST_TERMS / R::each() {
             return Err(BatchFault::TooManyTerms);
@@ -31,7 +33,7 @@ impl<'a, R: Record> ListBatch<'a, R> {
         Ok(ListBatch { records })
     }
 
-    // Term i, and none from the 1,024th on.
+    // Term i; there is none at 1,024 and above.
     fn term(&self, i: usize) -> WordTerm
         ensures { λ r. ⌜ spelled r ≡ nth (list-terms (R·Record .parts) (now (now (self .entry) .records))) i ⌝ }
     {

@@ -18,10 +18,15 @@ use sheet::marks::Marks;
 fn counted_sign(mark: Mark, kind: Kind) -> Option<bool>
     ensures { λ r. ⌜ r ≡ counted-sign mark kind ⌝ }
 {
-    match (mark, kind) {
-        (Mark::In, Kind::Positive) | (Mark::Turned, Kind::Negative) => Some(false),
-        (Mark::In, Kind::Negative) | (Mark::Turned, Kind::Positive) => Some(true),
-        _ => None,
+    let negative = match kind {
+        Kind::Positive => false,
+        Kind::Negative => true,
+        _ => return None,
+    };
+    match mark {
+        Mark::Out => None,
+        Mark::In => Some(negative),
+        Mark::Turned => Some(!negative),
     }
 }
 

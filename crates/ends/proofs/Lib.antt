@@ -1,0 +1,4 @@
+pub mod RaisedQuotients
+pub mod Borders
+pub mod NumbersOfEnds
+pub mod AnswersOfEnds

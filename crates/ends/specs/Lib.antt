@@ -1,0 +1,4 @@
+pub mod Directions
+pub mod Ends
+pub mod Outcome
+pub mod Steps
