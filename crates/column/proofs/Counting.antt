@@ -92,21 +92,25 @@ module _ (ts : List Term) (marks : ℕ → Mark) (i : ℕ) (h : i < length ts) w
   unfolding at-place
   kind-at = getD-map kind-of ts i not-a-number Absent h
 
-  pub listed-none : (cs : List CountedTerm) → map (listed-part ts) cs ≡ parts-of marks (take i ts) → None ≡ counted-sign (marks i) (kind-of-term ts i) → map (listed-part ts) cs ≡ parts-of marks (take (i + 1) ts)
-  listed-none cs l e =
-      let n = counted-none (marks i) at-place (ap (counted-sign (marks i)) (sym kind-at) ∙ sym e) in
-      l ∙ sym (parts-more ∙ ap (λ (ps : List Part). parts-of marks (take i ts) ++ ps) n ∙ append-nil (parts-of marks (take i ts)))
+  -- the mark and the kind that are read there
+  module _ (k : Mark) (q : Kind) (marked : k ≡ marks i) (kind : q ≡ kind-of-term ts i) where
+    counts : counted-sign k q ≡ counted-sign (marks i) (kind-of at-place)
+    counts = ap₂ counted-sign marked (kind ∙ kind-at)
 
-  pub listed-one : (cs ds : List CountedTerm) (s : Bool) → map (listed-part ts) cs ≡ parts-of marks (take i ts) → Some s ≡ counted-sign (marks i) (kind-of-term ts i)
-      → ds ≡ cs ++ record { place = i; negative = s } ∷ [] → map (listed-part ts) ds ≡ parts-of marks (take (i + 1) ts)
-  unfolding at-place
-  listed-one cs ds s l e f =
-      let n = counted-some (marks i) at-place s (ap (counted-sign (marks i)) (sym kind-at) ∙ sym e) in
-      let c : CountedTerm = record { place = i; negative = s } in
-      let p : listed-part ts c ≡ signed-part s at-place = getD-map (signed-part s) ts i not-a-number (part s 0 (pos 0)) h in
-      ap (map (listed-part ts)) f ∙ map-append (listed-part ts) cs (c ∷ [])
-      ∙ ap₂ (λ (ps : List Part) (q : Part). ps ++ q ∷ []) l p
-      ∙ sym (parts-more ∙ ap (λ (ps : List Part). parts-of marks (take i ts) ++ ps) n)
+    pub listed-none : (cs : List CountedTerm) → map (listed-part ts) cs ≡ parts-of marks (take i ts) → None ≡ counted-sign k q → map (listed-part ts) cs ≡ parts-of marks (take (i + 1) ts)
+    listed-none cs l e =
+        let n = counted-none (marks i) at-place (sym (e ∙ counts)) in
+        l ∙ sym (parts-more ∙ ap (λ (ps : List Part). parts-of marks (take i ts) ++ ps) n ∙ append-nil (parts-of marks (take i ts)))
+
+    pub listed-one : (cs ds : List CountedTerm) (s : Bool) → map (listed-part ts) cs ≡ parts-of marks (take i ts) → Some s ≡ counted-sign k q → ds ≡ cs ++ record { place = i; negative = s } ∷ []
+        → map (listed-part ts) ds ≡ parts-of marks (take (i + 1) ts)
+    unfolding at-place
+    listed-one cs ds s l e f =
+        let n = counted-some (marks i) at-place s (sym (e ∙ counts)) in
+        let c : CountedTerm = record { place = i; negative = s } in
+        let p : listed-part ts c ≡ signed-part s at-place = getD-map (signed-part s) ts i not-a-number (part s 0 (pos 0)) h in
+        ap (map (listed-part ts)) f ∙ map-append (listed-part ts) cs (c ∷ []) ∙ ap₂ (λ (ps : List Part) (r : Part). ps ++ r ∷ []) l p
+        ∙ sym (parts-more ∙ ap (λ (ps : List Part). parts-of marks (take i ts) ++ ps) n)
 
 -- ---- no part is 0
 regular-not-zero : (t : Term) → Limited t → Regular (regular-part t)

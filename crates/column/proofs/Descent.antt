@@ -18,8 +18,8 @@ use Rattle.std.proofs.shelf.Signed.{by-ltZ, clamps}
 use Rattle.std.proofs.shelf.Tests.{cond-both}
 use Rattle.batch.specs.Term.{column-weight}
 use Rattle.column.specs.Parts.{Part, low, top}
-use Rattle.column.specs.Columns.{Occupies, Occupied, column-of, columns, Falling, Listed}
-use Rattle.column.specs.Walk.{first-column, first-below, Spans, Highest, higher}
+use Rattle.column.specs.Columns.{Spans, Occupies, Occupied, column-of, columns, Falling, Listed}
+use Rattle.column.specs.Walk.{first-column, first-below, Highest, higher}
 use Rattle.column.proofs.Listing.{floor-is, columns-fall, columns-occupied, occupied-columns}
 use Rattle.column.proofs.Chain.{in-below}
 

@@ -16,9 +16,9 @@ use Rattle.batch.specs.Lookup.{low-of-term, top-of-term}
 use Rattle.column.specs.declared.counted.CountedTerm.{CountedTerm}
 use Rattle.column.specs.declared.counted.CountedTerms.{CountedTerms}
 use Rattle.column.specs.Parts.{Part, low, top}
-use Rattle.column.specs.Columns.{Occupies, Occupied, columns, Listed}
+use Rattle.column.specs.Columns.{Spans, Occupies, Occupied, columns, Listed}
 use Rattle.column.specs.CountedTerms.{listed-part, listed-parts}
-use Rattle.column.specs.Walk.{first-column, first-below, Spans, Highest, higher}
+use Rattle.column.specs.Walk.{first-column, first-below, Highest, higher}
 use Rattle.column.proofs.Listing.{columns-occupied}
 use Rattle.column.proofs.Lookups.{listed-low, listed-top}
 use Rattle.column.proofs.Gathering.{read-before, listed-length, listed-before}

@@ -10,8 +10,8 @@ use borrow.Author.Differences.{ints}
 use Rattle.std.specs.Numbers.{minZ}
 use Rattle.std.specs.declared.option.Option.the-variants.{Some, None}
 use Rattle.std.proofs.shelf.Signed.{clamps}
-use Rattle.column.specs.Columns.{column-of}
-use Rattle.column.specs.Walk.{Spans, Highest}
+use Rattle.column.specs.Columns.{column-of, Spans}
+use Rattle.column.specs.Walk.{Highest}
 use Rattle.column.proofs.Listing.{floor-is}
 use Rattle.column.proofs.Descent.{candidate, none-spanned, some-spanned}
 

@@ -1,27 +1,19 @@
 -- One part, cut at two weights.
-use Prim.Native.Nat.{ℕ, _+_, _-_, _*_, _/_, _%_, _^_, _<_}
+use Prim.Native.Nat.{ℕ, _+_, _*_, _/_, _%_, _^_, _<_}
 use mathlib.Core.Path.{_≡_, sym, ap, _∙_}
 use mathlib.Core.Logic.{_⊎_, inl, inr}
 use native.Mathlib.Omega.{arith}
-use native.Mathlib.Nat.{mul-assoc, mul-div-mul-right, mul-mod-left, mod-eq-of-lt, div-one, lt-of-lt-of-le}
+use native.Mathlib.Nat.{mul-mod-left, mod-eq-of-lt, div-one, lt-of-lt-of-le}
 use lib.IntN.{ℤ}
 use lib.Signed.{_≤ℤ_}
-use lib.Pow.{pow-pos, pow-add, pow-mono, shr-shr, split, shl-lt, shr-lt}
+use lib.Pow.{pow-mono, shr-shr, split, shl-lt, shr-lt}
 use lib.Ieee.{size}
 use lib.Ieee.Digits.{size-lt}
 use borrow.Author.Differences.{ints}
 use Rattle.exact.specs.Integers.{gap, lesser}
 use Rattle.exact.proofs.Multiples.{multiple-coarser}
+use Rattle.batch.proofs.Units.{units-at}
 use Rattle.column.specs.Parts.{Part, top, units}
-
--- at a scale below both weights
-pub units-at : (p : Part) (w z : ℤ) → z ≤ℤ p .weight → z ≤ℤ w → units p w ≡ p .significand * 2 ^ gap (p .weight) z / 2 ^ gap w z
-units-at p w z h g =
-    let q = p .weight in
-    let j = gap q z - gap q w in
-    let a : gap q z ≡ gap q w + j = omega (arith, ints) in
-    let b : gap w z ≡ gap w q + j = omega (arith, ints) in
-    rw (a, b, pow-add 2 (gap q w) j, pow-add 2 (gap w q) j, ← mul-assoc (p .significand) (2 ^ gap q w) (2 ^ j)) (sym (mul-div-mul-right (p .significand * 2 ^ gap q w) (2 ^ gap w q) (pow-pos j)))
 
 -- a cut of a cut
 pub units-coarser : (p : Part) (w v : ℤ) → v ≤ℤ w → units p w ≡ units p v / 2 ^ gap w v
@@ -29,10 +21,10 @@ units-coarser p w v h =
     let z = lesser (p .weight) v in
     let n = p .significand * 2 ^ gap (p .weight) z in
     let e : gap w z ≡ gap v z + gap w v = omega (arith, ints) in
-    units-at p w z (omega (arith, ints)) (omega (arith, ints))
+    units-at (p .significand) (p .weight) w z (omega (arith, ints)) (omega (arith, ints))
     ∙ ap (λ (k : ℕ). n / 2 ^ k) e
     ∙ sym (shr-shr n (gap v z) (gap w v))
-    ∙ ap (λ (k : ℕ). k / 2 ^ gap w v) (sym (units-at p v z (omega (arith, ints)) (omega (arith, ints))))
+    ∙ ap (λ (k : ℕ). k / 2 ^ gap w v) (sym (units-at (p .significand) (p .weight) v z (omega (arith, ints)) (omega (arith, ints))))
 
 pub units-split : (p : Part) (w v : ℤ) → v ≤ℤ w → units p v ≡ units p w * 2 ^ gap w v + units p v % 2 ^ gap w v
 units-split p w v h = rw (units-coarser p w v h) (sym (split (units p v) (gap w v)))

@@ -20,9 +20,13 @@ digit p k = digit-at k (as-term p)
 abbrev pub column-total : List Part → ℤ → ℤ
 column-total ps k = signed-sum (λ p. digit p k) ps
 
--- the part has weights in the column k: its top weight is above the column's lowest, and its low weight below the next column
+-- some of the weights from l up to t, without t itself, lie in the column k
+abbrev pub Spans : ℤ → ℤ → ℤ → Type 0
+Spans l t k = (column-weight k <ℤ t) × (l <ℤ (column-weight k +ℤ pos 32))
+
+-- the part occupies the column k: its top weight is above the column's lowest weight, and its low weight below the next column's
 abbrev pub Occupies : Part → ℤ → Type 0
-Occupies p k = (column-weight k <ℤ top p) × (low p <ℤ (column-weight k +ℤ pos 32))
+Occupies p k = Spans (low p) (top p) k
 
 -- some part occupies the column k
 abbrev pub Occupied : List Part → ℤ → Type 0

@@ -1,12 +1,11 @@
 -- The way down the occupied columns: the first, and the next below a given one.
 use mathlib.Core.Bool.{cond}
 use mathlib.Core.List.{List, [], _∷_}
-use lib.IntN.{ℤ, pos, _+ℤ_}
+use lib.IntN.{ℤ}
 use lib.Signed.{_≤ℤ_, _<ℤ_, ltZ}
 use Rattle.std.specs.Numbers.{maxZ}
 use Rattle.std.specs.declared.option.Option.{Option}
 use Rattle.std.specs.declared.option.Option.the-variants.{Some, None}
-use Rattle.batch.specs.Term.{column-weight}
 
 -- the first of a list of columns, if there is one
 abbrev pub first-column : List ℤ → Option ℤ
@@ -17,10 +16,6 @@ first-column (c ∷ cs) = Some c
 abbrev pub first-below : ℤ → List ℤ → Option ℤ
 first-below b [] = None
 first-below b (c ∷ cs) = cond (ltZ c b) (Some c) (first-below b cs)
-
--- the weights from low up to top, without top itself, have some in the column k
-abbrev pub Spans : ℤ → ℤ → ℤ → Type 0
-Spans low top k = (column-weight k <ℤ top) × (low <ℤ (column-weight k +ℤ pos 32))
 
 -- c is the highest of some columns that lie below the column b, if there is one
 abbrev pub Highest : ℤ → (ℤ → Type 0) → Option ℤ → Type 0

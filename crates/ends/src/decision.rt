@@ -1,6 +1,6 @@
 // Whether the bits that are kept of a number are raised by one, and on which side the answer lies then.
 ghost use mathlib.Core.Path.{_≡_};
-ghost use Prim.Native.Nat.{ℕ, _<_};
+ghost use Prim.Native.Nat.{_<_};
 ghost use Rattle.exact.specs.Limbs.{limbs-value};
 ghost use Rattle.grid.specs.Rounding.{way-of};
 ghost use Rattle.grid.specs.Modes.{mode-of};

@@ -1,6 +1,6 @@
 -- What a record without a fault answers, told by its fields.
 use Prim.Native.Nat.{ℕ, _+_, _-_, _*_, _/_, _%_, _^_, _≤_, _<_}
-use mathlib.Core.Path.{_≡_, refl, sym, ap, ap₂, _∙_, subst}
+use mathlib.Core.Path.{_≡_, refl, sym, ap, ap₂, _∙_}
 use mathlib.Core.Bool.{Bool, true, false}
 use mathlib.Core.List.{List, map}
 use native.Mathlib.Omega.{arith}
@@ -16,7 +16,7 @@ use Rattle.std.proofs.shelf.Elements.{all-getD}
 use Rattle.std.proofs.shelf.Bits.{shr-split}
 use Rattle.exact.specs.Limbs.{limbs-value}
 use Rattle.exact.proofs.LimbDigits.{lowest-bits}
-use Rattle.batch.specs.Term.{Term, regular, whole-units, top-weight, low-weight, digit-at, column-weight}
+use Rattle.batch.specs.Term.{Term, regular, whole-units}
 use Rattle.batch.specs.TermKinds.{kind-of, kind-numbered, kind-is-regular, term-of-kind}
 use Rattle.batch.specs.Lookup.{kind-of-term}
 use Rattle.batch.specs.declared.kind.Kind.{Kind}

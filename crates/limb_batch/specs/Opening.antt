@@ -1,7 +1,7 @@
 -- Which records are refused, and with which fault: the tests in their order.
 use Prim.Native.Nat.{ℕ, _+_, _-_, _%_, _^_, _≤_, _<_}
 use mathlib.Core.Path.{_≡_}
-use mathlib.Core.Bool.{Bool, true, cond}
+use mathlib.Core.Bool.{true, cond}
 use mathlib.Core.List.{List, [], _∷_}
 use lib.Dec.{ltb, eqb}
 use lib.IntN.{pos, negℤ}
@@ -67,12 +67,13 @@ first-fault pool i (r ∷ rs) = fault-at i (record-fault pool r) (first-fault po
 abbrev pub opening-fault : List ℕ → List LimbRecord → Option BatchFault
 opening-fault pool rs = cond (ltb most-terms (length rs)) (Some TooManyTerms) (first-fault pool 0 rs)
 
--- what the outcome of an opening tells of the records: the fault is that of a record, and no record before it has one
+-- record i has the fault f, and no record before it has one
 pub record FirstFault (pool : List ℕ) (rs : List LimbRecord) (i : ℕ) (f : RecordFault) : Type 0 where
   pub there : i < length rs
   pub faulty : (d : LimbRecord) → record-fault pool (getD rs i d) ≡ Some f
   pub first : All (λ r. record-fault pool r ≡ None) (take i rs)
 
+-- what the outcome of an opening tells of the records
 abbrev pub Told : List ℕ → List LimbRecord → Option BatchFault → Type 0
 Told pool rs None = (length rs ≤ most-terms) × All (λ r. record-fault pool r ≡ None) rs
 Told pool rs (Some TooManyTerms) = most-terms < length rs

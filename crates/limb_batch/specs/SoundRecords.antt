@@ -1,13 +1,13 @@
 -- Records without a fault spell a list of terms that can be a batch.
-use Prim.Native.Nat.{ℕ, suc, _+_, _-_, _*_, _/_, _%_, _^_, _≤_, _<_}
-use mathlib.Core.Path.{_≡_, refl, sym, ap, _∙_, subst}
+use Prim.Native.Nat.{ℕ, _+_, _-_, _*_, _/_, _%_, _^_, _≤_, _<_}
+use mathlib.Core.Path.{_≡_, refl, sym, _∙_, subst}
 use mathlib.Core.Bool.{Bool, true, false, not, cond}
-use mathlib.Core.List.{List, [], _∷_, map}
+use mathlib.Core.List.{List, [], _∷_}
 use native.Mathlib.Omega.{arith}
 use lib.Dec.{T, ltb, eqb}
 use lib.IntN.{ℤ, pos, negℤ, _+ℤ_, _-ℤ_}
 use lib.Signed.{ltZ, ltZ-no, _≤ℤ_}
-use lib.ListN.{length, getD, take, drop, length-map, length-drop}
+use lib.ListN.{length, getD, drop, length-map, length-drop}
 use lib.Seq.{length-take-le}
 use lib.Ieee.{size}
 use borrow.Author.Tests.{ltb-false, eqb-true, clash}
@@ -20,7 +20,7 @@ use Rattle.std.proofs.shelf.Elements.{all-map, all-weaker, all-from-getD, all-t
 use Rattle.exact.specs.Limbs.{Limbs, limbs-value}
 use Rattle.exact.proofs.LowDigits.{size-lowered}
 use Rattle.exact.proofs.LimbDigits.{size-full}
-use Rattle.batch.specs.Term.{Term, Limited, RegularLimits, Batchable, most-terms, most-digits, farthest-top}
+use Rattle.batch.specs.Term.{Limited, RegularLimits, Batchable, most-terms, most-digits, farthest-top}
 use Rattle.batch.specs.TermKinds.{kind-numbered, kind-is-regular, term-of-kind}
 use Rattle.batch.specs.declared.kind.Kind.{Kind}
 use Rattle.batch.specs.declared.kind.Kind.the-variants.{NotANumber, PositiveInfinity, NegativeInfinity, PositiveZero, NegativeZero, Positive, Negative, Absent}
@@ -28,7 +28,7 @@ use Rattle.batch.specs.declared.fault.RecordFault.{RecordFault}
 use Rattle.batch.specs.declared.fault.BatchFault.{BatchFault}
 use Rattle.limb_batch.specs.declared.record.LimbRecord.{LimbRecord}
 use Rattle.limb_batch.specs.Records.{limbs-for, spare-bits, significand, record-term, record-terms}
-use Rattle.limb_batch.specs.Opening.{Sound, limbs-fault, regular-fault, fault-by-kind, record-fault, fault-at, first-fault, opening-fault}
+use Rattle.limb_batch.specs.Opening.{Sound, regular-fault, fault-by-kind, record-fault, fault-at, first-fault, opening-fault}
 
 -- a pool holds numbers of 32 bits
 abbrev pub Words : List ℕ → Type 0

@@ -1,6 +1,6 @@
 // Reading the bits of a number that is given by limbs of 32 bits, the least significant first.
 ghost use mathlib.Core.Path.{_≡_};
-ghost use Prim.Native.Nat.{ℕ, _*_, _/_, _%_, _^_, _≤_};
+ghost use Prim.Native.Nat.{_*_, _/_, _%_, _^_, _≤_};
 ghost use lib.ListN.{length, getD};
 ghost use lib.Ieee.{size};
 ghost use Rattle.exact.specs.Limbs.{limbs-value};

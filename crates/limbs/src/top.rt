@@ -1,6 +1,6 @@
 // Writing the first bits of a number at the top of the limbs of an answer, raised by one or not.
 ghost use mathlib.Core.Path.{_≡_};
-ghost use Prim.Native.Nat.{ℕ, _+_, _-_, _*_, _/_, _%_, _^_, _<_, _≤_};
+ghost use Prim.Native.Nat.{_+_, _-_, _*_, _/_, _%_, _^_, _<_, _≤_};
 ghost use lib.ListN.{length};
 ghost use Rattle.exact.specs.Limbs.{limbs-value};
 ghost use Rattle.limbs.specs.Bits.{bit, limbs-for, most-limbs};

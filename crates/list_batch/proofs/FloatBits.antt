@@ -1,13 +1,13 @@
 -- The bit pattern of a binary64 number stands for a term that is worth the number.
 use mathlib.Core.Path.{_≡_, refl, sym, ap, _∙_, subst}
 use mathlib.Core.Bool.{Bool, true, false, cond, not}
-use Prim.Native.Nat.{ℕ, zero, suc, _+_, _-_, _*_, _/_, _%_, _^_, _≤_, _<_}
+use Prim.Native.Nat.{ℕ, zero, suc, _+_, _-_, _*_, _/_, _%_, _^_, _<_}
 use native.Mathlib.Omega.{arith}
 use native.Mathlib.Nat.{mul-right-comm, eq-of-mul-eq-mul-right}
 use lib.Pow.{pow-pos}
 use lib.Dec.{T as Holds, leb, eqb, eqb·suc-zero}
 use borrow.Author.Tests.{clash}
-use lib.IntN.{ℤ, pos, negsuc, _-ℤ_}
+use lib.IntN.{pos, negsuc, _-ℤ_}
 use lib.Ieee as ieee
 use lib.Ieee.{Float, fin, up, down, minus, odd, ofFields, ofBits, toBits, fits, binary64}
 use lib.Ieee.Bits.{ofBits-toBits}

@@ -1,7 +1,6 @@
 -- Which part of which record a term of a list batch is, and how many terms there are.
-use Prim.Native.Nat.{ℕ, zero, suc, _+_, _-_, _*_, _/_, _%_, _≤_, _<_, min}
+use Prim.Native.Nat.{ℕ, zero, suc, _+_, _-_, _*_, _/_, _%_, _≤_, _<_}
 use mathlib.Core.Path.{_≡_, refl, sym, ap, _∙_}
-use mathlib.Core.Bool.{cond}
 use mathlib.Core.Logic.{_⊎_, inl, inr}
 use mathlib.Core.List.{List, [], _∷_, _++_, map}
 use native.Mathlib.Omega.{arith}
@@ -121,10 +120,6 @@ module _ {X : Type 0} {width : ℕ} {parts : X → List Term} (laws : LawfulReco
 
   pub count-whole : (xs : List X) (t : ℕ) → t ≡ width → length xs ≤ most-terms / t → length xs * t ≡ length (list-terms parts xs)
   count-whole xs t e h = rw (whole-list xs t e h, length-flat laws xs, e) refl
-
-  -- so the product is small
-  pub count-small : (xs : List X) (t : ℕ) → t ≡ width → length xs ≤ most-terms / t → length xs * t ≤ most-terms
-  count-small xs t e h = rw (e, ← length-flat laws xs) (few-enough xs t e h)
 
   -- ---- an opened batch has the parts of its records in their order
   pub in-order : (xs : List X) (t : ℕ) → t ≡ width → length xs ≤ most-terms / t → PartsInOrder width parts xs (list-terms parts xs)

@@ -4,7 +4,7 @@ use mathlib.Core.Path.{_≡_, refl, sym, _∙_}
 use mathlib.Core.Bool.{Bool, true, false}
 use lib.IntN.{ℤ}
 use borrow.Author.Tests.{clash}
-use Rattle.batch.specs.Term.{Term, not-a-number, infinite, signed-zero, regular}
+use Rattle.batch.specs.Term.{Term, regular}
 use Rattle.batch.specs.TermKinds.{kind-of, kind-is-regular}
 use Rattle.batch.specs.declared.kind.Kind.{Kind}
 use Rattle.batch.specs.declared.kind.Kind.the-variants.{NotANumber, PositiveInfinity, NegativeInfinity, PositiveZero, NegativeZero, Positive, Negative, Absent}

@@ -1,6 +1,6 @@
 -- The term of a scaled record: n * 2 ^ s.
-use Prim.Native.Nat.{ℕ, zero, suc, _^_, _≤_, _<_}
-use mathlib.Core.Path.{_≡_, refl}
+use Prim.Native.Nat.{zero, suc, _^_, _≤_, _<_}
+use mathlib.Core.Path.{refl}
 use mathlib.Core.Bool.{true, false}
 use mathlib.Core.List.{List, [], _∷_}
 use native.Mathlib.Omega.{arith}
@@ -19,6 +19,7 @@ scaled-term (pos zero) s = signed-zero false
 scaled-term (pos (suc n)) s = regular false (suc n) s
 scaled-term (negsuc n) s = regular true (suc n) s
 
+-- the one term of a scaled record
 abbrev pub scaled-parts : Scaled → List Term
 scaled-parts x = scaled-term (x .count) (x .scale) ∷ []
 

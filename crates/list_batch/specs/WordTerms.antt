@@ -3,7 +3,7 @@ use Prim.Native.Nat.{ℕ}
 use lib.IntN.{ℤ}
 use Rattle.std.specs.declared.option.Option.{Option}
 use Rattle.std.specs.declared.option.Option.the-variants.{Some, None}
-use Rattle.batch.specs.Term.{Term, not-a-number, infinite, signed-zero, regular}
+use Rattle.batch.specs.Term.{Term}
 use Rattle.batch.specs.declared.kind.Kind.{Kind}
 use Rattle.batch.specs.declared.kind.Kind.the-variants.{NotANumber, PositiveInfinity, NegativeInfinity, PositiveZero, NegativeZero, Positive, Negative, Absent}
 use Rattle.batch.specs.TermKinds.{term-of-kind}

@@ -1,7 +1,7 @@
 // Signed totals of columns, settled as a sign and a magnitude in limbs, the least significant first.
 ghost use mathlib.Core.Path.{_≡_};
-ghost use Prim.Native.Nat.{ℕ, _+_, _*_, _^_, _<_, _≤_};
-ghost use lib.IntN.{ℤ, pos, _+ℤ_, _*ℤ_, natAbs};
+ghost use Prim.Native.Nat.{_+_, _*_, _^_, _<_, _≤_};
+ghost use lib.IntN.{pos, _+ℤ_, _*ℤ_, natAbs};
 ghost use lib.ListN.{length};
 ghost use Rattle.exact.specs.Integers.{is-negative};
 ghost use Rattle.exact.specs.Limbs.{limbs-value};

@@ -31,7 +31,7 @@ fn counted_sign(mark: Mark, kind: Kind) -> Option<bool>
 }
 
 impl CountedTerms {
-    // Goes once through the terms of a batch.
+    // Lists the counted terms, in one pass over the batch.
     pub fn new<B: Batch>(batch: &B, marks: &Marks) -> CountedTerms
         ensures parts { λ r. ⌜ listed-parts (B·Batch .terms (now (batch .entry))) r ≡ parts-of (shown (now (marks .entry))) (B·Batch .terms (now (batch .entry))) ⌝ }
         ensures regular { λ r. ⌜ Regular (listed-parts (B·Batch .terms (now (batch .entry))) r) ⌝ }
@@ -53,6 +53,7 @@ impl CountedTerms {
         counted
     }
 
+    // One more term at the end of the list.
     fn push(&mut self, term: CountedTerm)
         requires { ⌜ now self .len < 1024 ⌝ }
         ensures len { λ _. ⌜ now (self .exit) .len ≡ now (self .entry) .len + 1 ⌝ }

@@ -1,8 +1,8 @@
 // The way down the occupied columns: the first, and the next below a given one. No gap between columns is walked through.
 ghost use mathlib.Core.Path.{_≡_};
-ghost use Rattle.column.specs.Columns.{columns, Occupied};
+ghost use Rattle.column.specs.Columns.{columns, Spans, Occupied};
 ghost use Rattle.column.specs.CountedTerms.{listed-parts};
-ghost use Rattle.column.specs.Walk.{first-column, first-below, Spans, Highest, higher};
+ghost use Rattle.column.specs.Walk.{first-column, first-below, Highest, higher};
 use crate::counted::CountedTerms;
 use batch::Batch;
 
@@ -22,6 +22,7 @@ fn highest_spanned(low: i32, top: i32, below: i32) -> Option<i32>
     }
 }
 
+// The higher of two columns, where there are any.
 fn higher_column(one: Option<i32>, other: Option<i32>) -> Option<i32>
     ensures { λ r. ⌜ r ≡ higher one other ⌝ }
 {

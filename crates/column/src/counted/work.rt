@@ -1,8 +1,7 @@
 // One column's work: the total of the digits there, and how many terms go on below it. It grows with the number of counted terms alone.
 ghost use mathlib.Core.Path.{_≡_};
-ghost use mathlib.Core.Bool.{Bool};
 ghost use Prim.Native.Nat.{_^_, _<_};
-ghost use lib.IntN.{pos, negℤ, natAbs};
+ghost use lib.IntN.{natAbs};
 ghost use lib.Signed.{ltZ};
 ghost use Rattle.exact.specs.Integers.{signed};
 ghost use Rattle.batch.specs.Term.{column-weight};
@@ -15,6 +14,7 @@ use crate::counted::CountedTerm;
 use crate::counted::CountedTerms;
 use batch::Batch;
 
+// How many weights a column has.
 const WEIGHTS: i64 = 32;
 
 // The digit of a counted term at a column, with the sign that it counts with.

@@ -1,6 +1,7 @@
-use Prim.Native.Nat.{_+_, _-_, _*_, _^_, _≤_, _<_}
+-- The totals so far are the limbs so far and the carry, which is small.
+use Prim.Native.Nat.{_*_, _^_, _≤_, _<_}
 use mathlib.Core.Path.{_≡_}
-use lib.ListN.{take, length}
+use lib.ListN.{take}
 use lib.IntN.{pos, _+ℤ_, _*ℤ_, natAbs}
 use Rattle.exact.specs.Limbs.{limbs-value}
 use Rattle.totals.specs.Totals.{totals-value, flipped}

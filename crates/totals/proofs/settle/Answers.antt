@@ -1,11 +1,11 @@
 -- Of the number and its opposite one has a carry that is not negative.
 use borrow.Author.Needs.{needs}
 use native.Mathlib.Omega.{arith}
-use Prim.Native.Nat.{ℕ, _+_, _*_, _^_}
+use Prim.Native.Nat.{_+_, _*_, _^_}
 use mathlib.Core.Path.{_≡_, refl, sym, ap, subst, _∙_}
-use mathlib.Core.Bool.{true, false}
-use lib.IntN.{ℤ, pos, negsuc, negℤ, natAbs, _+ℤ_, _*ℤ_}
-use lib.Signed.{_<ℤ_, _≤ℤ_}
+use mathlib.Core.Bool.{true}
+use lib.IntN.{ℤ, pos, negsuc, natAbs}
+use lib.Signed.{_<ℤ_}
 use lib.ListN.{length}
 use mir.Syntax.{w64}
 use mir.Val.{SFits}

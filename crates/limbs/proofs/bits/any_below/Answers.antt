@@ -1,9 +1,9 @@
-use Prim.Native.Nat.{ℕ, _+_, _*_, _/_, _%_, _^_, _≤_}
+-- A limb that is not 0 is something; and else the last limb decides.
+use Prim.Native.Nat.{ℕ, _*_, _%_, _^_}
 use native.Mathlib.Omega.{arith}
 use mathlib.Core.Path.{_≡_, sym, ap, _∙_}
-use mathlib.Core.Bool.{Bool, true, false, cond, not}
+use mathlib.Core.Bool.{not}
 use lib.Dec.{ltb, eqb}
-use lib.ListN.{getD}
 use Rattle.std.proofs.shelf.Bits.{one-shl}
 use Rattle.exact.proofs.LimbBits.{some-below, any-in-last-limb}
 use Rattle.limbs.proofs.bits.any_below.Needs as need

@@ -1,3 +1,4 @@
+-- The limbs so far are 0.
 use Prim.Native.Nat.{ℕ, _<_}
 use mathlib.Core.Path.{_≡_}
 use lib.ListN.{getD}

@@ -1,12 +1,10 @@
-use borrow.Author.Needs.{needs}
-use Prim.Native.Nat.{ℕ, _+_, _-_, _*_, _≤_, _<_}
+-- The highest limb that is not 0 has the highest bit.
+use Prim.Native.Nat.{ℕ, _+_, _-_}
 use native.Mathlib.Omega.{arith}
-use mathlib.Core.Path.{_≡_, refl, sym, ap, _∙_, subst}
-use lib.ListN.{getD, drop, length}
-use lib.Count.{leadingZeros}
+use mathlib.Core.Path.{_≡_, sym, ap, _∙_, subst}
+use lib.ListN.{drop, length}
 use lib.Ieee.{size}
 use Rattle.std.proofs.shelf.Lists.{drop-all, drop-more}
-use Rattle.std.proofs.shelf.Bits.{leading-le}
 use Rattle.exact.specs.Limbs.{limbs-value}
 use Rattle.exact.proofs.LimbBits.{size-by-top-limb}
 use Rattle.limbs.proofs.bits.bit_length.Needs as need

@@ -1,4 +1,5 @@
-use Prim.Native.Nat.{ℕ, _<_, _≤_}
+-- The limbs from i on are 0.
+use Prim.Native.Nat.{_≤_}
 use mathlib.Core.Path.{_≡_}
 use lib.ListN.{drop, length}
 use Rattle.exact.specs.Limbs.{limbs-value}

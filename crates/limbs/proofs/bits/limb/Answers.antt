@@ -1,3 +1,4 @@
+-- Past the last limb there is nothing.
 use mathlib.Core.Path.{sym}
 use Rattle.std.proofs.shelf.Lists.{getD-past}
 use Rattle.limbs.proofs.bits.limb.Needs as need

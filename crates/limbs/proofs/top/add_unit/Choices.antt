@@ -1,4 +1,5 @@
-use Prim.Native.Nat.{ℕ, _+_, _*_, _/_, _%_, _^_, _<_, _≤_}
+-- The limbs so far and the carry are the limbs before and what was added.
+use Prim.Native.Nat.{_+_, _*_, _^_, _<_, _≤_}
 use mathlib.Core.Path.{_≡_}
 use lib.ListN.{take, drop}
 use Rattle.exact.specs.Limbs.{limbs-value}

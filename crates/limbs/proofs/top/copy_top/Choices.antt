@@ -1,4 +1,5 @@
-use Prim.Native.Nat.{ℕ, _*_, _/_, _%_, _^_, _<_}
+-- The limbs so far are the lowest digits of what is to be written.
+use Prim.Native.Nat.{_*_, _/_, _%_, _^_}
 use mathlib.Core.Path.{_≡_}
 use lib.ListN.{take}
 use Rattle.exact.specs.Limbs.{limbs-value}

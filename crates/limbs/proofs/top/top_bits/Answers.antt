@@ -1,7 +1,8 @@
-use Prim.Native.Nat.{ℕ, _+_, _-_, _*_, _/_, _%_, _^_, _≤_, _<_}
+-- A shift down, a shift up by 32 bits or more, and a short shift up.
+use Prim.Native.Nat.{ℕ, _-_, _*_, _%_, _^_}
 use native.Mathlib.Omega.{arith}
 use native.Mathlib.Nat.{div-one}
-use mathlib.Core.Path.{_≡_, sym, ap, _∙_}
+use mathlib.Core.Path.{sym, ap, _∙_}
 use Rattle.std.proofs.shelf.Bits.{and-mask}
 use Rattle.exact.specs.Limbs.{limbs-value}
 use Rattle.exact.proofs.Shifts.{shift-down, shift-up, low-bits-gone, low-bits-up}

@@ -1,5 +1,6 @@
-use Prim.Native.Nat.{ℕ, _+_, _-_, _*_, _/_, _%_, _^_, _≤_, _<_}
-use mathlib.Core.Path.{_≡_, sym, ap, _∙_}
+-- The copy, without the bits past the precision.
+use Prim.Native.Nat.{ℕ, _-_, _*_, _/_, _^_}
+use mathlib.Core.Path.{ap, _∙_}
 use Rattle.exact.specs.Limbs.{limbs-value}
 use Rattle.limbs.specs.Bits.{limbs-for}
 use Rattle.limbs.proofs.WrittenBits.{cut-again}

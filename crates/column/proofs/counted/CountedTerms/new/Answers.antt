@@ -1,17 +1,16 @@
 use native.Mathlib.Omega.{arith}
 use Prim.Native.Nat.{ℕ, _+_, _≤_}
-use mathlib.Core.Path.{_≡_, sym, ap, ap₂, subst, _∙_}
+use mathlib.Core.Path.{_≡_, sym, ap, subst, _∙_}
 use mathlib.Core.List.{List, map}
 use lib.ListN.{length, take}
 use Rattle.std.proofs.shelf.Lists.{take-all}
 use Rattle.batch.specs.Term.{Term}
-use Rattle.batch.specs.declared.kind.Kind.{Kind}
 use Rattle.sheet.specs.Shown.{shown}
 use Rattle.sheet.specs.declared.mark.Mark.{Mark}
 use Rattle.column.specs.declared.counted.CountedTerm.{CountedTerm}
 use Rattle.column.specs.Parts.{Regular}
 use Rattle.column.specs.PartsOf.{parts-of}
-use Rattle.column.specs.CountedTerms.{counted-sign, listed-part}
+use Rattle.column.specs.CountedTerms.{listed-part}
 use Rattle.column.proofs.Counting.{listed-one, listed-none, parts-regular}
 use Rattle.column.proofs.counted.CountedTerms.new.Needs as need
 use Rattle.column.proofs.counted.CountedTerms.new.Needs.{in-Some, in-rest}
@@ -29,19 +28,19 @@ loop-place-again g c =
     let ts = g .B·Batch .terms (c .args .batch .now) in
     let marks = shown (c .args .marks .now) in
     let i = c .loop-place .place in
-    let xs = take (c .loop-place .counted .1 .0) (c .loop-place .counted .0) in
-    let asked = ap₂ counted-sign (c .at .ensures) (c .kind .ensures) in
+    let cs = take (c .loop-place .counted .1 .0) (c .loop-place .counted .0) in
     elim (c .match-sign .came) [
       | in-Some w ↦
           let d = w .push .last .self in
           subst (Stands ts marks (i + 1)) (sym (w .counted-is)) (
-            listed-one ts marks i (omega arith) xs (take (d .len) (d .terms)) (w .in-Some .negative) (c .loop-place .inv .0) (w .in-Some .ensures tt ∙ asked) (w .push .ensures .terms),
+            listed-one ts marks i (omega arith) (c .at .result) (c .kind .result) (c .at .ensures) (c .kind .ensures) cs (take (d .len) (d .terms)) (w .in-Some .negative) (c .loop-place .inv .0)
+                (w .in-Some .ensures tt) (w .push .ensures .terms),
             omega (arith, w .push .ensures .len),
             d .whole,
           )
       | in-rest w ↦
           subst (Stands ts marks (i + 1)) (sym (w .counted-is)) (
-            listed-none ts marks i (omega arith) xs (c .loop-place .inv .0) (w .in-rest .ensures tt ∙ asked),
+            listed-none ts marks i (omega arith) (c .at .result) (c .kind .result) (c .at .ensures) (c .kind .ensures) cs (c .loop-place .inv .0) (w .in-rest .ensures tt),
             omega arith,
             c .loop-place .inv .2,
           )

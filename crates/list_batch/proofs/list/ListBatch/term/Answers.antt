@@ -1,6 +1,5 @@
-use borrow.Author.Needs.{needs}
 use mathlib.Core.Path.{ap, _∙_}
-use Prim.Native.Nat.{_/_, _%_}
+use Prim.Native.Nat.{_%_}
 use Rattle.std.specs.shelf.Maps.{nth}
 use Rattle.list_batch.proofs.Places.{part-here, part-past, part-late}
 use Rattle.list_batch.proofs.list.ListBatch.term.Needs as need

@@ -1,4 +1,4 @@
-use Rattle.list_batch.proofs.Places.{count-cut, count-whole, count-small}
+use Rattle.list_batch.proofs.Places.{count-cut, count-whole}
 use Rattle.list_batch.proofs.list.ListBatchBatch.count.Needs as need
 
 pub returns-then-self-each : need.returns-then-self-each
