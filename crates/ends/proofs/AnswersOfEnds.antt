@@ -20,7 +20,7 @@ use Rattle.exact.specs.Dyadic.{Dyadic, dyadic}
 use Rattle.exact.specs.Limbs.{limbs-value}
 use Rattle.exact.proofs.BitLength.{size-top}
 use Rattle.exact.proofs.Order.{≈ᴰ-trans}
-use Rattle.exact.proofs.Parts.{size-some}
+use Rattle.exact.proofs.BitLength.{pos-of-size}
 use Rattle.exact.proofs.Shifts.{shift-down, shift-up, first-bits-full, half-power}
 use Rattle.exact.proofs.LimbBits.{SmallLimbs, limb-past-value}
 use Rattle.exact.proofs.Units.{other-units}
@@ -96,7 +96,7 @@ module _ (u : ℤ → ℤ) (S : LawsEverywhere u) (m : Mode) (s part : Bool) (n 
   -- ---- some bits are kept: p of them, or q at the next exponent
   module _ (p q : ℕ) (pp : e ≡ v +ℤ pos p) (some : 0 < p) (qq : (e +ℤ pos 1) ≡ u (e +ℤ pos 1) +ℤ pos q) where
     nonzero : 0 < n
-    nonzero = by-ltZ w v (λ l. size-some n (omega (arith, ints))) (λ l. nz (none-missing l))
+    nonzero = by-ltZ w v (λ l. pos-of-size n (omega (arith, ints))) (λ l. nz (none-missing l))
 
     kept-rounds : (x : Dyadic) → StandsFor s part n w x → RoundsTo u m x s (n * 2 ^ p / 2 ^ size n + bit raise) v (direction-sign (toward s raise inexact))
     kept-rounds x g =

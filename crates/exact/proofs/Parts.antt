@@ -36,12 +36,6 @@ size-parts n j r h l = from-top (size-top n h)
         let b : n * 2 ^ j + r < 2 ^ suc (e + j) = rw (← q, pow-add 2 (suc e) j) (parts-below n (2 ^ suc e) (2 ^ j) r hi l) in
         size-is (n * 2 ^ j + r) (e + j) a b ∙ omega arith
 
--- a number with a bit has one that is not 0
-pub size-some : (n : ℕ) → 0 < size n → 0 < n
-unfolding size
-size-some zero h = h
-size-some (suc n) h = omega arith
-
 -- one more has as many bits, or is the next power of two
 pub size-next : (n : ℕ) → (size (n + 1) ≡ size n) ⊎ ((size (n + 1) ≡ suc (size n)) × (n + 1 ≡ 2 ^ size n))
 size-next n = elim (eq-or-lt-of-le (size-lt n)) [

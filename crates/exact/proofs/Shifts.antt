@@ -40,20 +40,6 @@ pub half-power : (k : ℕ) → 0 < k → 2 ^ k / 2 ≡ 2 ^ (k - 1)
 half-power k h = ap (λ (y : ℕ). y / 2) (ap (λ (y : ℕ). 2 ^ y) (let q : k ≡ suc (k - 1) = omega arith in q) ∙ pow-suc 2 (k - 1)) ∙ mul-div-cancel (2 ^ (k - 1)) (omega arith)
 
 -- ---- the lowest 32 bits
-pub low-bits-gone : (n t : ℕ) → 32 ≤ t → n * 2 ^ t % 4294967296 ≡ 0
-low-bits-gone n t h = multiple-coarser (n * 2 ^ t) t 32 h (mul-mod-left n (2 ^ t))
-
-pub low-bits-up : (n t : ℕ) → t < 32 → n % 4294967296 * 2 ^ t % 18446744073709551616 % 4294967296 ≡ n * 2 ^ t % 4294967296
-low-bits-up n t h =
-    let m = n % 4294967296 in
-    let l : m < 2 ^ 32 = omega arith in
-    let a : m * 2 ^ t % 18446744073709551616 ≡ m * 2 ^ t = shl-whole m 32 t 64 l (omega arith) in
-    let b : n * 2 ^ t ≡ m * 2 ^ t + n / 4294967296 * 2 ^ t * 4294967296 = scaled (n / 4294967296) m (2 ^ t) n (omega arith) in
-    ap (λ (y : ℕ). y % 4294967296) a ∙ sym (add-mul-mod-self-right (m * 2 ^ t) (n / 4294967296 * 2 ^ t) 4294967296) ∙ ap (λ (y : ℕ). y % 4294967296) (sym b)
-  where
-    scaled : (q m P n : ℕ) → n ≡ q * 4294967296 + m → n * P ≡ m * P + q * P * 4294967296
-    scaled q m P n e = ap (λ (y : ℕ). y * P) e ∙ omega arith
-
 pub low-bits-of-low : (n s : ℕ) → s ≤ 32 → n % 4294967296 % 2 ^ s ≡ n % 2 ^ s
 low-bits-of-low n s h = subst (λ (y : ℕ). n % 2 ^ y % 2 ^ s ≡ n % 2 ^ s) (let e : 32 - s + s ≡ 32 = omega arith in e) (mod-mod-pow n (32 - s) s)
 

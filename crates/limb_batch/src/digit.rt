@@ -1,7 +1,6 @@
 // The weights and the digits of one regular record without a fault.
 ghost use mathlib.Core.Path.{_≡_};
 ghost use Prim.Native.Nat.{_*_, _/_, _%_, _^_, _<_, _≤_};
-ghost use lib.ListN.{getD};
 ghost use lib.IntN.{pos, negsuc, _+ℤ_, _-ℤ_, _*ℤ_};
 ghost use lib.Signed.{_≤ℤ_};
 ghost use Rattle.exact.specs.Limbs.{limbs-value};
@@ -10,29 +9,9 @@ ghost use Rattle.limb_batch.specs.Records.{limbs-for, significand};
 ghost use Rattle.limb_batch.specs.Opening.{Sound};
 use crate::check::limb_count;
 use crate::record::LimbRecord;
+use limbs::bits_at;
 
 const LIMB: u64 = 0x1_0000_0000;
-
-// The limb at j, and 0 past the last.
-fn limb_or_zero(limbs: &[u32], j: usize) -> u64
-    ensures { λ r. ⌜ r ≡ getD (now (limbs .entry)) j 0 ⌝ }
-{
-    if j < limbs.len() {
-        u64::from(limbs[j])
-    } else {
-        0
-    }
-}
-
-// 32 bits of the limbs, from bit `from` on: they lie in two limbs.
-fn window(limbs: &[u32], from: usize) -> u32
-    requires { ⌜ from < 2 ^ 40 ⌝ }
-    ensures { λ r. ⌜ r ≡ limbs-value (now (limbs .entry)) / 2 ^ from % 2 ^ 32 ⌝ }
-{
-    let j = from / 32;
-    let both = limb_or_zero(limbs, j + 1) * LIMB + limb_or_zero(limbs, j);
-    ((both >> (from % 32)) % LIMB) as u32
-}
 
 // The lowest 32 bits of the limbs moved up.
 fn raised(limbs: &[u32], by: usize) -> u32
@@ -41,7 +20,7 @@ fn raised(limbs: &[u32], by: usize) -> u32
     if by >= 32 {
         return 0;
     }
-    ((limb_or_zero(limbs, 0) << by) % LIMB) as u32
+    ((u64::from(bits_at(limbs, 0)) << by) % LIMB) as u32
 }
 
 // 32 bits of the limbs, from bit `from` on, which may lie below the lowest.
@@ -50,7 +29,7 @@ fn window_at(limbs: &[u32], from: i64) -> u32
     ensures { λ r. ⌜ r ≡ whole-units (limbs-value (now (limbs .entry))) (pos 0) from % 2 ^ 32 ⌝ }
 {
     if from >= 0 {
-        window(limbs, from as usize)
+        bits_at(limbs, from as usize)
     } else {
         raised(limbs, (-from) as usize)
     }
