@@ -12,7 +12,7 @@ use borrow.Author.Differences.{ints}
 use Rattle.std.specs.shelf.Lists.{All}
 use Rattle.std.proofs.shelf.Elements.{all-weaker}
 use Rattle.exact.specs.Integers.{signed, gap, lesser, scale}
-use Rattle.exact.specs.Dyadic.{Dyadic, dyadic, at, plus, total, _≤ᴰ_}
+use Rattle.exact.specs.Dyadic.{Dyadic, dyadic, at, plus, _≤ᴰ_}
 use Rattle.exact.proofs.Scaling.{scale-neg, scale-signed}
 use Rattle.exact.proofs.Order.{le-at}
 use Rattle.exact.proofs.Sums.{at-plus, at-total, BelowAll, total-at, below-all}

@@ -1,5 +1,5 @@
 -- The depth, and what the exact sum rounds to there.
-use Prim.Native.Nat.{ℕ, zero, suc, _≤_, _<_}
+use Prim.Native.Nat.{ℕ, zero, suc, _≤_}
 use mathlib.Core.Path.{_≡_, refl, sym, subst}
 use mathlib.Core.Bool.{Bool, true, false, _&&_}
 use mathlib.Core.Logic.{inl}
@@ -7,12 +7,10 @@ use mathlib.Core.List.{List, [], _∷_}
 use native.Mathlib.Omega.{arith}
 use lib.IntN.{ℤ, pos}
 use lib.ListN.{length}
-use lib.Signed.{_<ℤ_}
 use borrow.Author.Differences.{ints}
 use Rattle.std.proofs.shelf.Tests.{and-parts, both-ways, cond-both}
-use Rattle.exact.specs.Dyadic.{Dyadic, dyadic, at, plus, total}
+use Rattle.exact.specs.Dyadic.{dyadic, at, total}
 use Rattle.exact.proofs.BitLength.{size-pos}
-use Rattle.grid.specs.Spacing.{Lawful}
 use Rattle.grid.specs.Rounding.{Mode, rounded, Answer, Alike}
 use Rattle.grid.proofs.Everywhere.{LawsEverywhere, laws-everywhere}
 use Rattle.grid.proofs.Monotone.{between, alike-refl}

@@ -1,11 +1,10 @@
 -- The next occupied column below a given one, and the first of all.
 use Prim.Native.Nat.{ℕ, _+_, _-_, _≤_, _<_}
 use mathlib.Core.Path.{_≡_, refl, sym, ap, subst, _∙_}
-use mathlib.Core.Bool.{Bool, true, false, cond}
 use mathlib.Core.Logic.{_⊎_, inl, inr}
 use mathlib.Core.List.{List, [], _∷_}
 use native.Mathlib.Omega.{arith}
-use lib.IntN.{ℤ, pos, _+ℤ_, _-ℤ_}
+use lib.IntN.{ℤ, pos, _-ℤ_}
 use lib.ListN.{length, getD, drop}
 use lib.Signed.{_≤ℤ_, _<ℤ_, ltZ}
 use borrow.Author.Differences.{ints}
@@ -16,7 +15,6 @@ use Rattle.std.specs.declared.option.Option.the-variants.{Some, None}
 use Rattle.std.proofs.shelf.Lists.{drop-more, drop-all}
 use Rattle.std.proofs.shelf.Signed.{by-ltZ, clamps}
 use Rattle.std.proofs.shelf.Tests.{cond-both}
-use Rattle.batch.specs.Term.{column-weight}
 use Rattle.column.specs.Parts.{Part, low, top}
 use Rattle.column.specs.Columns.{Spans, Occupies, Occupied, column-of, columns, Falling, Listed}
 use Rattle.column.specs.Walk.{first-column, first-below, Highest, higher}

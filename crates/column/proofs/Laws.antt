@@ -11,8 +11,8 @@ use Rattle.exact.specs.Dyadic.{Dyadic, dyadic, plus, _≤ᴰ_, _≈ᴰ_}
 use Rattle.exact.proofs.Order.{same-at, ≈ᴰ-trans}
 use Rattle.exact.proofs.Sums.{plus-zero}
 use Rattle.batch.specs.Term.{column-weight}
-use Rattle.column.specs.Parts.{Part, Regular, exact-sum}
-use Rattle.column.specs.Ends.{cut-sum, reaching-below, sum-down-to, lower-end, upper-end}
+use Rattle.column.specs.Parts.{Part, exact-sum}
+use Rattle.column.specs.Ends.{cut-sum, sum-down-to, lower-end, upper-end}
 use Rattle.column.specs.Claims.{Columns-listed, Sum-starts, Sum-goes-on, Totals-bounded, Ends-nested, Ends-meet, Sum-enclosed, Enclosed}
 use Rattle.column.proofs.Cuts.{lower-at, upper-at, first-sum, next-sum, total-within, at-exact, upper-clear, rest-within, lower-below, upper-above}
 use Rattle.column.proofs.Nesting.{lower-nested, upper-nested}

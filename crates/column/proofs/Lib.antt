@@ -12,5 +12,6 @@ pub mod Lookups
 pub mod Gathering
 pub mod Descent
 pub mod Walking
+pub mod Ranges
 pub mod SpannedColumns
 pub mod ListedDescent

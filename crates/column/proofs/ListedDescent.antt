@@ -1,6 +1,6 @@
 -- The way down the columns of the listed terms.
 use Prim.Native.Nat.{ℕ, zero, suc, _+_, _-_, _≤_, _<_}
-use mathlib.Core.Path.{_≡_, refl, sym, ap, subst, _∙_}
+use mathlib.Core.Path.{_≡_, refl, sym, subst, _∙_}
 use mathlib.Core.Logic.{inl, inr}
 use mathlib.Core.List.{List, [], _∷_, map}
 use native.Mathlib.Omega.{arith}
@@ -15,7 +15,7 @@ use Rattle.batch.specs.Term.{Term, not-a-number, infinite, signed-zero, regular
 use Rattle.batch.specs.Lookup.{low-of-term, top-of-term}
 use Rattle.column.specs.declared.counted.CountedTerm.{CountedTerm}
 use Rattle.column.specs.declared.counted.CountedTerms.{CountedTerms}
-use Rattle.column.specs.Parts.{Part, low, top}
+use Rattle.column.specs.Parts.{top}
 use Rattle.column.specs.Columns.{Spans, Occupies, Occupied, columns, Listed}
 use Rattle.column.specs.CountedTerms.{listed-part, listed-parts}
 use Rattle.column.specs.Walk.{first-column, first-below, Highest, higher}

@@ -68,14 +68,14 @@ last-run : (k : ℤ) (n : ℕ) (x : ℤ) → (x ≡ k +ℤ pos n) ⊎ Run k n x 
 last-run k n x (inl e) = (omega (arith, ints), omega (arith, ints))
 last-run k n x (inr (a, b)) = (a, omega (arith, ints))
 
-right : {A B C : Type 0} → A ⊎ (B ⊎ C) → (A ⊎ B) ⊎ C
-right (inl a) = inl (inl a)
-right (inr (inl b)) = inl (inr b)
-right (inr (inr c)) = inr c
+regrouped : {A B C : Type 0} → A ⊎ (B ⊎ C) → (A ⊎ B) ⊎ C
+regrouped (inl a) = inl (inl a)
+regrouped (inr (inl b)) = inl (inr b)
+regrouped (inr (inr c)) = inr c
 
 run-from : (k : ℤ) (n : ℕ) (cs : List ℤ) (x : ℤ) → Listed (with-columns k n cs) x → Run k n x ⊎ Listed cs x
 run-from k zero cs x i = inr i
-run-from k (suc n) cs x i = either (last-run k n x) (λ j. j) (right (either (λ e. e) (run-from k n cs x) (in-from (k +ℤ pos n) (with-columns k n cs) x i)))
+run-from k (suc n) cs x i = either (last-run k n x) (λ j. j) (regrouped (either (λ e. e) (run-from k n cs x) (in-from (k +ℤ pos n) (with-columns k n cs) x i)))
 
 run-to : (k : ℤ) (n : ℕ) (cs : List ℤ) (x : ℤ) → Run k n x ⊎ Listed cs x → Listed (with-columns k n cs) x
 run-to k zero cs x (inl (a, b)) = absurd (omega (arith, ints))

@@ -1,13 +1,12 @@
 -- What a batch answers of a listed term is what its part has.
-use Prim.Native.Nat.{ℕ, zero, suc, _+_, _*_, _/_, _%_, _^_, _≤_, _<_}
+use Prim.Native.Nat.{ℕ, zero, suc, _/_, _%_, _^_}
 use mathlib.Core.Path.{_≡_, refl, sym, ap, ap₂, _∙_}
-use mathlib.Core.Bool.{Bool, true, false}
+use mathlib.Core.Bool.{Bool}
 use mathlib.Core.List.{List, [], _∷_, map}
 use native.Mathlib.Omega.{arith}
-use native.Mathlib.Nat.{zero-mul, zero-div, zero-mod}
-use lib.IntN.{ℤ, pos, negℤ, _+ℤ_}
-use lib.ListN.{length, getD}
-use lib.Ieee.{size}
+use native.Mathlib.Nat.{zero-mul, zero-div}
+use lib.IntN.{ℤ, pos}
+use lib.ListN.{getD}
 use lib.Ieee.Digits.{size-le}
 use borrow.Author.Differences.{ints}
 use Rattle.exact.specs.Integers.{signed, gap}

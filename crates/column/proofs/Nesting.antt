@@ -1,5 +1,5 @@
 -- The ends at a lower weight lie within those at a higher one, where nothing lies between.
-use Prim.Native.Nat.{ℕ, _+_, _-_, _*_, _%_, _^_, _≤_}
+use Prim.Native.Nat.{_+_, _-_, _*_, _%_, _^_, _≤_}
 use mathlib.Core.Path.{_≡_, ap, _∙_}
 use mathlib.Core.Bool.{cond}
 use mathlib.Core.List.{List, [], _∷_}

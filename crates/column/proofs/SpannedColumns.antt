@@ -3,7 +3,7 @@ use mathlib.Core.Path.{_≡_, ap, ap₂, _∙_}
 use mathlib.Core.Bool.{true, false}
 use native.Mathlib.Omega.{arith}
 use lib.IntN.{ℤ, pos, _-ℤ_}
-use lib.Signed.{_≤ℤ_, _<ℤ_, ltZ, shrZ}
+use lib.Signed.{ltZ, shrZ}
 use mir.Val.{toZ, ofZ, SFits}
 use mir.Syntax.{w32, w64}
 use borrow.Author.Differences.{ints}

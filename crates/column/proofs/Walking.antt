@@ -1,19 +1,19 @@
 -- The walk from the first column down to the depth.
-use Prim.Native.Nat.{ℕ, suc, _+_}
+use Prim.Native.Nat.{_+_}
 use mathlib.Core.Path.{_≡_, refl, sym, ap, subst, _∙_}
-use mathlib.Core.Bool.{true, false}
+use mathlib.Core.Bool.{false}
 use mathlib.Core.Logic.{⊎-elim}
 use mathlib.Core.List.{List, [], _∷_, _++_}
 use native.Mathlib.Omega.{arith}
 use lib.IntN.{ℤ}
-use lib.Signed.{_≤ℤ_, _<ℤ_, ltZ}
+use lib.Signed.{_<ℤ_, ltZ}
 use borrow.Author.Differences.{ints}
 use Rattle.std.specs.shelf.Lists.{All}
 use Rattle.std.specs.declared.option.Option.{Option}
-use Rattle.std.specs.declared.option.Option.the-variants.{Some, None}
+use Rattle.std.specs.declared.option.Option.the-variants.{Some}
 use Rattle.std.proofs.shelf.Tests.{cond-both, cases-bool}
 use Rattle.exact.proofs.Order.{≤ᴰ-trans, ≈ᴰ-trans}
-use Rattle.grid.specs.Rounding.{Mode, rounded, Answer, Alike}
+use Rattle.grid.specs.Rounding.{rounded, Answer, Alike}
 use Rattle.grid.proofs.Everywhere.{laws-everywhere}
 use Rattle.grid.proofs.Monotone.{between}
 use Rattle.column.specs.Parts.{Part, exact-sum}
@@ -21,7 +21,7 @@ use Rattle.column.specs.Columns.{columns, Falling}
 use Rattle.column.specs.Ends.{lower-end, upper-end}
 use Rattle.column.specs.Depth.{ends-alike, depth, answer}
 use Rattle.column.specs.Walk.{first-column, first-below}
-use Rattle.column.specs.Claims.{Down-from, Alike-stays, Next-listed, Walked, Walk-starts, Walk-goes-on, Walk-ends}
+use Rattle.column.specs.Claims.{Down-from, Alike-stays, Next-listed, Walk-starts, Walk-goes-on, Walk-ends}
 use Rattle.column.proofs.Listing.{columns-fall}
 use Rattle.column.proofs.Laws.{ends-nested, sum-enclosed}
 use Rattle.column.proofs.Depths.{alike-true, true-alike}

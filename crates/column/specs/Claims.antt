@@ -7,13 +7,15 @@ use lib.ListN.{length}
 use lib.IntN.{ℤ, pos, negℤ, _+ℤ_}
 use lib.Signed.{_≤ℤ_}
 use Rattle.exact.specs.Integers.{gap, scale}
-use Rattle.exact.specs.Dyadic.{_≤ᴰ_, _≈ᴰ_}
-use Rattle.grid.specs.Spacing.{Lawful}
+use Rattle.exact.specs.Dyadic.{_≤ᴰ_, _≈ᴰ_, exponent}
+use Rattle.grid.specs.Spacing.{InRange, Lawful}
 use Rattle.grid.specs.Rounding.{Mode, rounded, Alike}
-use Rattle.batch.specs.Term.{column-weight}
+use Rattle.batch.specs.Term.{Term, Batchable, column-weight}
+use Rattle.sheet.specs.declared.mark.Mark.{Mark}
 use Rattle.column.specs.Parts.{Part, Regular, exact-sum}
+use Rattle.column.specs.PartsOf.{parts-of}
 use Rattle.column.specs.Columns.{column-total, columns, Occupied, Falling, Listed}
-use Rattle.column.specs.Ends.{reaching-below, sum-down-to, bound, lower-end, upper-end}
+use Rattle.column.specs.Ends.{reaching-below, sum-down-to, lower-end, upper-end}
 use Rattle.column.specs.Depth.{depth-in, answer-in, depth, answer, AlikeAt}
 use Rattle.column.specs.Walk.{first-column, first-below}
 
@@ -101,6 +103,16 @@ Depth-of-none = (u : ℤ → ℤ) (m : Mode) → depth u m [] ≡ 0
 -- what the ends round to at the depth is what the exact sum rounds to
 abbrev pub Answer-right : Type 0
 Answer-right = (u : ℤ → ℤ) (W : ℕ) → Lawful u W → (m : Mode) (ps : List Part) → Regular ps → Alike (rounded u m (exact-sum ps)) (answer u m ps)
+
+-- the exponents of the exact sum and of the ends at every column are in the range that the laws of grids speak of
+pub record All-in-range (ps : List Part) : Type 0 where
+  pub sum : InRange (exponent (exact-sum ps))
+  pub lower : (c : ℤ) (cs : List ℤ) → Down-from ps (c ∷ cs) → InRange (exponent (lower-end ps c cs))
+  pub upper : (c : ℤ) (cs : List ℤ) → Down-from ps (c ∷ cs) → InRange (exponent (upper-end ps c cs))
+
+-- so it is for the counted terms of every batch
+abbrev pub In-range : Type 0
+In-range = (marks : ℕ → Mark) (ts : List Term) → Batchable ts → All-in-range (parts-of marks ts)
 
 -- ---- the walk from column to column
 -- once the ends round alike, they do so at each later column

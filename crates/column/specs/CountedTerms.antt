@@ -1,7 +1,6 @@
 -- What the code's list of counted terms stands for, and what is read off it.
-use Prim.Native.Nat.{ℕ}
 use mathlib.Core.Bool.{Bool, true, false, not}
-use mathlib.Core.List.{List, [], _∷_, map}
+use mathlib.Core.List.{List, map}
 use lib.IntN.{pos}
 use lib.ListN.{getD, take}
 use Rattle.std.specs.declared.option.Option.{Option}

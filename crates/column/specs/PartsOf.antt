@@ -1,6 +1,6 @@
 -- Which terms count, and with which sign: the parts of a sum, from the marks of the places and a list of terms.
 use Prim.Native.Nat.{ℕ, suc}
-use mathlib.Core.Bool.{Bool, true, false, not}
+use mathlib.Core.Bool.{not}
 use mathlib.Core.List.{List, [], _∷_, _++_, map}
 use Rattle.batch.specs.Term.{Term, not-a-number, infinite, signed-zero, regular}
 use Rattle.sheet.specs.declared.mark.Mark.{Mark}

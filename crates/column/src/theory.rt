@@ -1,5 +1,5 @@
 // The laws of columns, ends and depths, and worked examples of depths.
-ghost use Rattle.column.specs.Claims.{Columns-listed, Sum-starts, Sum-goes-on, Totals-bounded, Ends-nested, Ends-meet, Sum-enclosed};
+ghost use Rattle.column.specs.Claims.{Columns-listed, Sum-starts, Sum-goes-on, Totals-bounded, Ends-nested, Ends-meet, Sum-enclosed, In-range};
 ghost use Rattle.column.specs.Claims.{Sum-settled, Depth-exists, Depth-of-none, Answer-right};
 ghost use Rattle.column.specs.Claims.{Alike-stays, Next-listed, Walk-starts, Walk-goes-on, Walk-ends};
 ghost use Rattle.column.specs.Examples.{Examples-hold};
@@ -13,6 +13,7 @@ pub fn columns_stand()
     ensures nested { λ _. ⌜ Ends-nested ⌝ }
     ensures meet { λ _. ⌜ Ends-meet ⌝ }
     ensures enclosed { λ _. ⌜ Sum-enclosed ⌝ }
+    ensures in_range { λ _. ⌜ In-range ⌝ }
 {}
 
 // The depth, and what the sum rounds to there.

@@ -72,9 +72,9 @@ module _ (u : ℤ → ℤ) (S : LawsEverywhere u) (m : Mode) (s part : Bool) (n 
   there : v ≡ spacing-there u n w
   there = vv ∙ ap u ee
 
-  -- a part is missing only where the spacing is above the unit
-  none-missing : v ≤ℤ w → part ≡ false
-  none-missing h = by-part part det
+  -- a part is left over only where the spacing is above the unit
+  none-left-over : v ≤ℤ w → part ≡ false
+  none-left-over h = by-part part det
     where
       by-part : (b : Bool) → (b ≡ true → w <ℤ v) → b ≡ false
       by-part false f = refl
@@ -90,13 +90,13 @@ module _ (u : ℤ → ℤ) (S : LawsEverywhere u) (m : Mode) (s part : Bool) (n 
   fine-rounds : v ≤ℤ w → (x : Dyadic) → StandsFor s part n w x → RoundsTo u m x s n w (direction-sign (toward s raise inexact))
   fine-rounds h x g =
       let d = D .fine h in
-      let f = none-missing h in
+      let f = none-left-over h in
       rw (d .0, d .1) (fine-end-rounds u S m s n w x (subst (λ (y : ℤ). y ≤ℤ w) there h) (nz f) (subst (λ (y : Bool). StandsFor s y n w x) f g))
 
   -- ---- some bits are kept: p of them, or q at the next exponent
   module _ (p q : ℕ) (pp : e ≡ v +ℤ pos p) (some : 0 < p) (qq : (e +ℤ pos 1) ≡ u (e +ℤ pos 1) +ℤ pos q) where
     nonzero : 0 < n
-    nonzero = by-ltZ w v (λ l. pos-of-size n (omega (arith, ints))) (λ l. nz (none-missing l))
+    nonzero = by-ltZ w v (λ l. pos-of-size n (omega (arith, ints))) (λ l. nz (none-left-over l))
 
     kept-rounds : (x : Dyadic) → StandsFor s part n w x → RoundsTo u m x s (n * 2 ^ p / 2 ^ size n + bit raise) v (direction-sign (toward s raise inexact))
     kept-rounds x g =

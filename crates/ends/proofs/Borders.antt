@@ -1,4 +1,4 @@
--- The units on both sides of a missing part are both on the grid exactly if the spacing there is no more than a unit.
+-- The whole units on both sides of the part left over are both on the grid exactly if the spacing there is no more than a unit.
 use Prim.Native.Nat.{ℕ, suc, _+_, _%_, _^_, _≤_}
 use mathlib.Core.Path.{_≡_, refl, sym, subst}
 use mathlib.Core.Bool.{Bool, true, false}

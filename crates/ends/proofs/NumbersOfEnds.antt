@@ -211,7 +211,7 @@ module _ (u : ℤ → ℤ) (S : LawsEverywhere u) (m : Mode) (s p : Bool) (n i :
       → RoundsTo u m x s (n / 2 ^ suc i + bit (raises m s p n i)) (spacing-there u n w) (direction-sign (toward s (raises m s p n i) (left-out p n i)))
   coarse-end-rounds k nz h = from-small-units k nz (in-small-units s p n w x h)
 
--- ---- and where it is not, with no part missing: the number is on the grid
+-- ---- and where it is not, with nothing left over: the number is on the grid
 pub fine-end-rounds : (u : ℤ → ℤ) → LawsEverywhere u → (m : Mode) (s : Bool) (n : ℕ) (w : ℤ) (x : Dyadic) → spacing-there u n w ≤ℤ w → 0 < n → StandsFor s false n w x
     → RoundsTo u m x s n w (pos 0)
 unfolding rounded

@@ -1,4 +1,4 @@
--- Ends: a sign, a magnitude of n units of 2 ^ w, and whether a part of one more unit is missing from it.
+-- Ends: a sign, a magnitude of n units of 2 ^ w, and whether a part of one more unit is left over, of which no more is known.
 use Prim.Native.Nat.{ℕ, suc, _+_}
 use mathlib.Core.Bool.{Bool, true, false, cond}
 use lib.IntN.{ℤ, pos, _+ℤ_}
@@ -22,7 +22,7 @@ StandsFor true true n w x = (dyadic (signed true (n + 1)) w <ᴰ x) × (x <ᴰ d
 abbrev pub spacing-there : (ℤ → ℤ) → ℕ → ℤ → ℤ
 spacing-there u n w = u (w +ℤ pos (size n))
 
--- the units on both sides of a missing part are numbers of the grid
+-- the whole units on both sides of the part left over are numbers of the grid
 abbrev pub Bordered : (ℤ → ℤ) → Bool → ℕ → ℤ → Type 0
 Bordered u s n w = OnGrid u (dyadic (signed s n) w) × OnGrid u (dyadic (signed s (n + 1)) w)
 
@@ -32,7 +32,7 @@ raised near odd half rest = cond half (cond rest true odd) false
 raised cut odd half rest = false
 raised away odd half rest = cond half true rest
 
--- is anything below the bit at i, in n or missing from it
+-- is anything below the bit at i, in n or left over
 abbrev pub rest-below : Bool → ℕ → ℕ → Bool
 rest-below partial n i = cond (any-below n i) true partial
 

@@ -42,12 +42,12 @@ pub record Answered (u : ℤ → ℤ) (m : Mode) (s partial : Bool) (n : ℕ) (w
 abbrev pub Right : (ℤ → ℤ) → Mode → Bool → Bool → ℕ → ℤ → RoundedEnd → ℕ → Type 0
 Right u m s partial n w r a = (r .negative ≡ s) × Answered u m s partial n w (r .zero) (r .exponent) (r .precision) (direction-sign (r .direction)) a
 
--- nothing is told exactly if a part is missing from a unit that is no finer than the spacing
+-- nothing is told exactly if a part is left over and the spacing is no more than a unit
 abbrev pub Outcome : (ℤ → ℤ) → Mode → Bool → Bool → ℕ → ℤ → Option RoundedEnd → ℕ → Type 0
 Outcome u m s partial n w None a = (partial ≡ true) × (spacing-there u n w ≤ℤ w)
 Outcome u m s partial n w (Some r) a = (partial ≡ true → w <ℤ spacing-there u n w) × Right u m s partial n w r a
 
--- and so exactly if the missing part lies between two numbers of the grid, each of which rounds to itself
+-- and so exactly if the part left over lies between two numbers of the grid, each of which rounds to itself
 abbrev pub Undetermined : (ℤ → ℤ) → Bool → Bool → ℕ → ℤ → Option RoundedEnd → Type 0
 Undetermined u s partial n w None = Bordered u s n w
 Undetermined u s partial n w (Some r) = partial ≡ true → ¬ Bordered u s n w

@@ -46,7 +46,7 @@ impl Decision {
     }
 }
 
-// Of the number without its bits up to the bit `at`, to which a part may be missing.
+// Of the number without its bits up to the bit `at`, where a part of its last unit may be left over.
 pub fn decide(limbs: &[u32], at: usize, partial: bool, negative: bool, mode: Mode) -> Decision
     requires { ⌜ at < 4294967296 ⌝ }
     ensures raise { λ r. ⌜ r .raise ≡ raises (mode-of mode) negative partial (limbs-value (now (limbs .entry))) at ⌝ }

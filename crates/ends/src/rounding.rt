@@ -185,8 +185,8 @@ fn exponent_of(column: i32, bits: usize) -> i32
     32 * column + bits as i32
 }
 
-// Rounds an end: `whole` units of 2 ^ (32 * column), negative or not, and with a part of one more unit missing or not.
-// Each number that the end stands for rounds to the answer. None where a part is missing and the units are on the grid.
+// Rounds an end: `whole` units of 2 ^ (32 * column), negative or not, and with a part of one more unit left over or not.
+// Each number that the end stands for rounds to the answer. None where a part is left over and the spacing is no more than a unit.
 // For the ask, which meets the bounds: few limbs, columns within those of its terms, room for the width of the grid, and an exact zero told before.
 pub fn round_end<G: Grid>(
     negative: bool,

@@ -65,7 +65,7 @@ mod tests {
         }
     }
 
-    // 40 bits of an end whose lowest bit and missing part raise them.
+    // 40 bits of an end whose lowest bit, with what is left over, raises them.
     #[test]
     fn three_limbs_are_cut_to_two() -> Result<(), Fail> {
         let mut answer = [7u32; 4];
@@ -93,7 +93,7 @@ mod tests {
         }
     }
 
-    // Something above -2 ^ -1088 goes away from 0 to the first number of the grid.
+    // Something between -2 ^ -1088 and 0 goes away from 0 to the first number of the grid.
     #[test]
     fn a_part_alone_is_one_step() -> Result<(), Fail> {
         let mut answer = [7u32; 2];
@@ -121,7 +121,7 @@ mod tests {
         }
     }
 
-    // A missing part of 2 ^ -1088, which is itself on the grid.
+    // What is left over is below 2 ^ -1088, which is itself on the grid.
     #[test]
     fn a_fine_grid_leaves_it_undetermined() -> Result<(), Fail> {
         let mut answer = [7u32; 2];

@@ -1,12 +1,13 @@
 -- The exponent of a dyadic number, and the powers of two on both sides of it.
-use Prim.Native.Nat.{ℕ, suc, _+_, _^_, _≤_, _<_}
+use Prim.Native.Nat.{ℕ, suc, _+_, _*_, _^_, _≤_, _<_}
 use mathlib.Core.Path.{_≡_, sym, ap, _∙_, subst}
 use native.Mathlib.Omega.{arith}
-use native.Mathlib.Nat.{one-mul}
+use native.Mathlib.Nat.{one-mul, mul-le-mul-right}
 use lib.IntN.{ℤ, pos, natAbs, _+ℤ_, _-ℤ_}
 use lib.Signed.{_≤ℤ_}
 use lib.Ieee.{size}
-use lib.Ieee.Digits.{size-lt}
+use lib.Ieee.Digits.{size-lt, size-le}
+use lib.Pow.{pow-pos, pow-add}
 use borrow.Author.Differences.{ints}
 use Rattle.exact.specs.Integers.{gap, scale, lesser}
 use Rattle.exact.specs.Dyadic.{Dyadic, dyadic, at, _≤ᴰ_, _<ᴰ_, _≈ᴰ_, Nonzero, magnitude, exponent}
@@ -59,3 +60,14 @@ exponent-reached x p = from-top (size-top (natAbs (x .count)) (abs-pos (x .count
         let q : exponent x -ℤ pos 1 ≡ w +ℤ pos e = omega (arith, ints) in
         subst (λ (v : ℤ). dyadic (pos 1) v ≤ᴰ magnitude x) (sym q)
         (le-at w (dyadic (pos 1) (w +ℤ pos e)) (magnitude x) (omega (arith, ints)) (omega (arith, ints)) (rw (at-power w e, at-own (magnitude x)) (omega (arith, ints))))
+
+-- a count of at most 1,024 times 2 ^ t
+pub exponent-upto : (x : Dyadic) (t : ℤ) (n : ℕ) → x .weight ≤ℤ t → n ≤ 1024 → natAbs (x .count) ≤ n * 2 ^ gap t (x .weight) → exponent x ≤ℤ (t +ℤ pos 11)
+exponent-upto x t n h l a =
+    let g = gap t (x .weight) in
+    let m : n * 2 ^ g ≤ 1024 * 2 ^ g = mul-le-mul-right (2 ^ g) l in
+    let p = pow-pos g in
+    let e : 2 ^ (11 + g) ≡ 2048 * 2 ^ g = pow-add 2 11 g in
+    let b : natAbs (x .count) < 2 ^ (11 + g) = rw e (omega arith) in
+    let s = size-le (natAbs (x .count)) (11 + g) b in
+    omega (arith, ints)

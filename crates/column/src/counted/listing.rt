@@ -1,7 +1,7 @@
 // The counted terms of a batch under the marks of a sheet.
 ghost use Prim.Native.Nat.{_+_, _<_};
 ghost use mathlib.Core.Path.{_≡_};
-ghost use mathlib.Core.List.{List, [], _∷_, _++_};
+ghost use mathlib.Core.List.{[], _∷_, _++_};
 ghost use lib.ListN.{take};
 ghost use Rattle.sheet.specs.Shown.{shown};
 ghost use Rattle.column.specs.Parts.{Regular};

@@ -1,4 +1,5 @@
 use Rattle.column.proofs.Laws as laws
+use Rattle.column.proofs.Ranges.{in-range}
 use Rattle.column.proofs.theory.columns_stand.Needs as need
 
 pub returns : need.returns
@@ -10,4 +11,5 @@ returns c = record {
   nested = laws.ends-nested;
   meet = laws.ends-meet;
   enclosed = laws.sum-enclosed;
+  in-range = in-range;
 }
