@@ -1,0 +1,14 @@
+mod Windows
+mod Absorbing
+mod Heads
+mod Placing
+mod Ending
+mod Meaning
+mod Slices
+mod Determined
+mod Large
+mod Deciding
+mod Unique
+mod Resting
+mod Assembling
+mod LimbLists

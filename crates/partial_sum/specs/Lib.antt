@@ -1,0 +1,4 @@
+pub mod Holding
+pub mod Lying
+pub mod Ends
+pub mod Rounded

@@ -1,0 +1,8 @@
+// The sum of many terms as far as one column, exactly, in a fixed amount of memory.
+mod comparing;
+pub mod end;
+mod settling;
+pub mod sum;
+
+pub use end::End;
+pub use sum::PartialSum;
