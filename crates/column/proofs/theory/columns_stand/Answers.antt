@@ -1,3 +1,4 @@
+-- The laws of columns and ends, each by its proof.
 use Rattle.column.proofs.Laws as laws
 use Rattle.column.proofs.Ranges.{in-range}
 use Rattle.column.proofs.theory.columns_stand.Needs as need

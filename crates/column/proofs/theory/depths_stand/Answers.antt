@@ -1,3 +1,4 @@
+-- The laws of depths, each by its proof.
 use Rattle.column.proofs.Depths as depths
 use Rattle.column.proofs.Examples.{examples-hold}
 use Rattle.column.proofs.theory.depths_stand.Needs as need

@@ -1,3 +1,4 @@
+-- The laws of the walk, each by its proof.
 use Rattle.column.proofs.Walking as walking
 use Rattle.column.proofs.theory.walk_stands.Needs as need
 

@@ -1,3 +1,4 @@
+-- One part more, that goes on below or not; no sum overflows; at the end all parts are gathered.
 use native.Mathlib.Omega.{arith}
 use Prim.Native.Nat.{_+_}
 use mathlib.Core.Path.{_≡_, sym, ap, subst, _∙_}

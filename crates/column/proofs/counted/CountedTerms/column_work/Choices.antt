@@ -1,3 +1,4 @@
+-- What is gathered after some parts.
 use Rattle.column.specs.CountedTerms.{listed-parts}
 use Rattle.column.specs.Gathering.{Gathered}
 use Rattle.column.proofs.counted.CountedTerms.column_work.Given as given

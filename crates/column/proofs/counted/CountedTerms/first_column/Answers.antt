@@ -1,3 +1,4 @@
+-- All columns lie below the largest number of 32 bits.
 use mathlib.Core.Path.{_∙_}
 use Rattle.column.proofs.ListedDescent.{first-of-all}
 use Rattle.column.proofs.counted.CountedTerms.first_column.Needs as need

@@ -1,3 +1,4 @@
+-- One place more, counted or not; at the end the list stands for all parts, none of them 0.
 use native.Mathlib.Omega.{arith}
 use Prim.Native.Nat.{ℕ, _+_, _≤_}
 use mathlib.Core.Path.{_≡_, sym, ap, subst, _∙_}

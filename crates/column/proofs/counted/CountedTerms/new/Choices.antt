@@ -1,3 +1,4 @@
+-- What the list stands for after some places.
 use Prim.Native.Nat.{_≤_}
 use mathlib.Core.Path.{_≡_}
 use mathlib.Core.List.{map}

@@ -1,3 +1,4 @@
+-- One part more; at the end the highest column of all below the given one.
 use native.Mathlib.Omega.{arith}
 use mathlib.Core.Path.{_≡_, _∙_}
 use mir.Val.{toZ, ofZ}

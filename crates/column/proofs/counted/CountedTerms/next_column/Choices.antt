@@ -1,3 +1,4 @@
+-- The highest column after some parts.
 use lib.ListN.{drop}
 use Rattle.column.specs.Columns.{Occupied}
 use Rattle.column.specs.CountedTerms.{listed-parts}

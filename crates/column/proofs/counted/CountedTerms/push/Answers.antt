@@ -1,3 +1,4 @@
+-- The list grows at its end.
 use native.Mathlib.Omega.{arith}
 use Prim.Native.Nat.{_<_}
 use mathlib.Core.Path.{refl}

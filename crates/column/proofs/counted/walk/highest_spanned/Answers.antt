@@ -1,3 +1,4 @@
+-- The highest column or none, as computed in 64 bits.
 use Rattle.column.proofs.SpannedColumns.{spans-none, highest-fits, spans-some}
 use Rattle.column.proofs.counted.walk.highest_spanned.Needs as need
 

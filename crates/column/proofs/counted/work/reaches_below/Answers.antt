@@ -1,3 +1,4 @@
+-- The batch's low weight is the part's, and 64 bits hold both weights.
 use native.Mathlib.Omega.{arith}
 use mathlib.Core.Path.{_≡_, sym, ap₂, _∙_}
 use lib.IntN.{ℤ, pos, _*ℤ_}

@@ -1,3 +1,4 @@
+-- The batch's digit is the part's, with either sign.
 use native.Mathlib.Omega.{arith}
 use mathlib.Core.Path.{_≡_, sym, ap, _∙_}
 use mathlib.Core.Bool.{Bool}
