@@ -92,7 +92,7 @@ module _ (pool : List ℕ) (r : LimbRecord) (words : Words pool) (s : Sound pool
       let v = limbs-value (significand pool r) in
       let p = r .precision in
       let spare = spare-bits p in
-      let clear : v % 2 ^ spare ≡ 0 = lowest-bits (significand pool r) spare (32 - spare) (let a = s .some-digit in omega arith) ∙ s .low-clear in
+      let clear : v % 2 ^ spare ≡ 0 = lowest-bits (significand pool r) spare (32 - spare) (let a = s .in-range .some-digit in omega arith) ∙ s .low-clear in
       let whole : v ≡ v / 2 ^ spare * 2 ^ spare = let a = shr-split v spare in omega arith in
       let apart : r .exponent -ℤ pos (32 * limbs-for p) ≡ (r .exponent -ℤ pos p) -ℤ pos spare = omega (arith, ints) in
       ap₂ (λ (m : ℕ) (q : ℤ). whole-units m q w) whole apart ∙ units-finer (v / 2 ^ spare) spare (r .exponent -ℤ pos p) w

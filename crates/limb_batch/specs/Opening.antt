@@ -79,12 +79,16 @@ Told pool rs None = (length rs ≤ most-terms) × All (λ r. record-fault pool r
 Told pool rs (Some TooManyTerms) = most-terms < length rs
 Told pool rs (Some (AtRecord i f)) = (length rs ≤ most-terms) × FirstFault pool rs i f
 
--- what a regular record without a fault keeps to
-pub record Sound (pool : List ℕ) (r : LimbRecord) : Type 0 where
+-- the precision and the exponent of a record are in range
+pub record InRange (r : LimbRecord) : Type 0 where
   pub some-digit : 1 ≤ r .precision
   pub few-digits : r .precision ≤ most-digits
   pub not-below : negℤ (pos farthest-top) ≤ℤ r .exponent
   pub not-above : r .exponent ≤ℤ pos farthest-top
+
+-- what a regular record without a fault keeps to
+pub record Sound (pool : List ℕ) (r : LimbRecord) : Type 0 where
+  pub in-range : InRange r
   pub inside : r .place + limbs-for (r .precision) ≤ length pool
   pub top-set : 2 ^ 31 ≤ getD (significand pool r) (length (significand pool r) - 1) 0
   pub low-clear : getD (significand pool r) 0 0 % 2 ^ spare-bits (r .precision) ≡ 0

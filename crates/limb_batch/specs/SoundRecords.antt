@@ -68,10 +68,7 @@ regular-sound pool r h =
     let l = passed (ltb (length pool) (r .place + limbs-for (r .precision))) _ _ (f .1) in
     let t = passed (ltb (getD xs (length xs - 1) 0) (2 ^ 31)) _ _ (l .1) in
     record {
-      some-digit = ltb-false _ _ (p .0);
-      few-digits = ltb-false _ _ (q .0);
-      not-below = not-less _ _ (e .0);
-      not-above = not-less _ _ (f .0);
+      in-range = record { some-digit = ltb-false _ _ (p .0); few-digits = ltb-false _ _ (q .0); not-below = not-less _ _ (e .0); not-above = not-less _ _ (f .0) };
       inside = ltb-false _ _ (l .0);
       top-set = ltb-false _ _ (t .0);
       low-clear = eqb-true _ _ (held (eqb (getD xs 0 0 % 2 ^ spare-bits (r .precision)) 0) _ (t .1));
@@ -101,7 +98,7 @@ pub size-significand : (pool : List ℕ) (r : LimbRecord) → Words pool → Sou
 size-significand pool r w s =
     let xs = significand pool r in
     let p = r .precision in
-    let some = s .some-digit in
+    let some = s .in-range .some-digit in
     let len : length xs ≡ limbs-for p = length-significand pool r (s .inside) in
     let full : size (limbs-value xs) ≡ 32 * length xs = size-full xs (limbs-significand pool r w) (rw len (omega arith)) (s .top-set) in
     size-lowered (limbs-value xs) (spare-bits p) p (full ∙ rw len (omega arith)) some
@@ -124,7 +121,7 @@ limits p e m z a b c d =
 term-limited : (pool : List ℕ) (r : LimbRecord) → Words pool → isSome (record-fault pool r) ≡ false → Limited (record-term pool r)
 term-limited pool r w h =
     limited-by-kind (kind-numbered (r .kind)) _ _
-    (λ k. let s = sound pool r k h in limits (r .precision) (r .exponent) _ (size-significand pool r w s) (s .some-digit) (s .few-digits) (s .not-below) (s .not-above))
+    (λ k. let s = sound pool r k h in limits (r .precision) (r .exponent) _ (size-significand pool r w s) (s .in-range .some-digit) (s .in-range .few-digits) (s .in-range .not-below) (s .in-range .not-above))
 
 pub terms-batchable : (pool : List ℕ) (rs : List LimbRecord) → Words pool → isSome (opening-fault pool rs) ≡ false → Batchable (record-terms pool rs)
 terms-batchable pool rs w h =

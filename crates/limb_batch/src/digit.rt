@@ -6,7 +6,7 @@ ghost use lib.Signed.{_≤ℤ_};
 ghost use Rattle.exact.specs.Limbs.{limbs-value};
 ghost use Rattle.batch.specs.Term.{whole-units, column-weight};
 ghost use Rattle.limb_batch.specs.Records.{limbs-for, significand};
-ghost use Rattle.limb_batch.specs.Opening.{Sound};
+ghost use Rattle.limb_batch.specs.Opening.{InRange, Sound};
 use crate::check::limb_count;
 use crate::record::LimbRecord;
 use limbs::bits_at;
@@ -54,16 +54,16 @@ pub fn digit_of(pool: &[u32], record: &LimbRecord, column: i32) -> u32
 }
 
 // Its top weight.
-pub fn top_of(pool: &[u32], record: &LimbRecord) -> i32
-    requires { ⌜ Sound (now pool) (now «record») ⌝ }
+pub fn top_of(record: &LimbRecord) -> i32
+    requires { ⌜ InRange (now «record») ⌝ }
     ensures { λ r. ⌜ r ≡ now («record» .entry) .exponent ⌝ }
 {
     record.exponent as i32
 }
 
 // Its low weight.
-pub fn low_of(pool: &[u32], record: &LimbRecord) -> i32
-    requires { ⌜ Sound (now pool) (now «record») ⌝ }
+pub fn low_of(record: &LimbRecord) -> i32
+    requires { ⌜ InRange (now «record») ⌝ }
     ensures { λ r. ⌜ r ≡ now («record» .entry) .exponent -ℤ pos (now («record» .entry) .precision) ⌝ }
 {
     (record.exponent - record.precision as i64) as i32

@@ -57,14 +57,14 @@ pub impl<'r, 'p> Batch for LimbBatch<'r, 'p> as LimbBatchBatch {
 
     fn top(&self, i: usize) -> i32 {
         match self.regular_record(i) {
-            Some(record) => top_of(self.pool, record),
+            Some(record) => top_of(record),
             None => 0,
         }
     }
 
     fn low(&self, i: usize) -> i32 {
         match self.regular_record(i) {
-            Some(record) => low_of(self.pool, record),
+            Some(record) => low_of(record),
             None => 0,
         }
     }

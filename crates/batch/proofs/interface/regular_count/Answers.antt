@@ -1,3 +1,4 @@
+-- One more term, regular or not; at the end all terms are counted.
 use borrow.Author.Needs.{needs}
 use Rattle.std.proofs.shelf.Lists.{take-all}
 use Rattle.std.proofs.shelf.Sums.{countBy-le-length}

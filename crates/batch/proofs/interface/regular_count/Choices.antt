@@ -1,3 +1,4 @@
+-- What the loop keeps: the count is that of the terms so far.
 use mathlib.Core.Path.{_≡_}
 use lib.ListN.{take}
 use Rattle.batch.specs.Term.{regular-terms}

@@ -1,3 +1,4 @@
+-- A fault at this record, no fault at it, and no record left.
 use borrow.Author.Needs.{needs}
 use Rattle.std.proofs.shelf.Lists.{drop-all}
 use Rattle.limb_batch.proofs.FirstFaults.{first-further, first-here}

@@ -1,3 +1,4 @@
+-- What the loop keeps: the first fault is that of the records that are left.
 use mathlib.Core.Path.{_≡_}
 use lib.ListN.{drop}
 use Rattle.limb_batch.specs.Opening.{first-fault}

@@ -1,3 +1,4 @@
+-- The start of a column, counted from the lowest bit of the limbs.
 use borrow.Author.Needs.{needs}
 use mathlib.Core.Path.{_≡_}
 use native.Mathlib.Omega.{arith}

@@ -1,3 +1,4 @@
+-- 32 bits and more below the lowest there is nothing; nearer, the lowest 32 bits alone bear on it.
 use Prim.Native.Nat.{ℕ, _*_, _%_, _^_}
 use mathlib.Core.Path.{_≡_, ap, _∙_}
 use native.Mathlib.Nat.{div-one}

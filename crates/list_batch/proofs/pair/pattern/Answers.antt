@@ -1,3 +1,4 @@
+-- The pattern of a not-a-number, and that of any other float.
 use borrow.Author.Needs.{needs}
 use mathlib.Core.Path.{sym, ap, _∙_}
 use lib.Ieee.{binary64, toBits, ofBits, nan}

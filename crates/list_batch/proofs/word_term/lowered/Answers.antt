@@ -1,3 +1,4 @@
+-- A word moved down by 64 bits or more.
 use borrow.Author.Needs.{needs}
 use Rattle.exact.proofs.LowDigits.{lowered-away}
 use Rattle.list_batch.proofs.word_term.lowered.Needs as need

@@ -1,3 +1,4 @@
+-- A number moved up by 32 bits or more, or by fewer.
 use Rattle.exact.proofs.LowDigits.{raised-away, raised-low}
 use Rattle.list_batch.proofs.word_term.raised.Needs as need
 

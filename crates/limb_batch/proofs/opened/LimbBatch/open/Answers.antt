@@ -1,3 +1,4 @@
+-- What the outcome tells of the records is a theorem on the definition; the rest is read off.
 use borrow.Author.Needs.{needs}
 use mathlib.Core.Path.{sym, subst}
 use Rattle.limb_batch.specs.Opening.{Told}

@@ -1,3 +1,4 @@
+-- A record of a regular kind is there and has no fault.
 use borrow.Author.Needs.{needs}
 use Prim.Native.Nat.{_<_}
 use lib.ListN.{length}

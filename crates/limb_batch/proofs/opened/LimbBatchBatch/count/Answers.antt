@@ -1,3 +1,4 @@
+-- There are as many terms as records.
 use borrow.Author.Needs.{needs}
 use Rattle.std.proofs.shelf.Lists.{length-map}
 use Rattle.limb_batch.proofs.opened.LimbBatchBatch.count.Needs as need

@@ -1,3 +1,4 @@
+-- The bits of the limbs are the digits of the term, since the spare bits are 0.
 use mathlib.Core.Path.{refl, ap, _∙_}
 use Prim.Native.Nat.{_%_, _^_}
 use mir.Syntax.{w32}

@@ -1,3 +1,4 @@
+-- The kind of a record without a fault is that of its term.
 use mathlib.Core.Path.{ap, _∙_}
 use Rattle.batch.specs.TermKinds.{kind-numbered}
 use Rattle.limb_batch.specs.declared.record.LimbRecord.{LimbRecord}

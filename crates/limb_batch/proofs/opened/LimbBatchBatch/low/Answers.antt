@@ -1,3 +1,4 @@
+-- The low weight of a regular record is that of its term.
 use borrow.Author.Needs.{needs}
 use mathlib.Core.Path.{refl, _∙_}
 use lib.IntN.{pos}

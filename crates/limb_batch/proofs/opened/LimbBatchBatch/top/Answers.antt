@@ -1,3 +1,4 @@
+-- The exponent of a regular record is the top weight of its term.
 use borrow.Author.Needs.{needs}
 use mathlib.Core.Path.{refl, _∙_}
 use lib.IntN.{pos}

@@ -1,3 +1,4 @@
+-- How many terms there are, and their order.
 use Rattle.list_batch.proofs.Places.{refused-many, taken-few, whole-list, in-order}
 use Rattle.list_batch.proofs.list.ListBatch.open.Needs as need
 

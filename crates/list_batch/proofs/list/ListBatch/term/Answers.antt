@@ -1,3 +1,4 @@
+-- A term too far on, a part of a record, and no such record.
 use mathlib.Core.Path.{ap, _∙_}
 use Prim.Native.Nat.{_%_}
 use Rattle.std.specs.shelf.Maps.{nth}

@@ -1,3 +1,4 @@
+-- More terms than a batch may have, or all of them.
 use Rattle.list_batch.proofs.Places.{count-cut, count-whole}
 use Rattle.list_batch.proofs.list.ListBatchBatch.count.Needs as need
 

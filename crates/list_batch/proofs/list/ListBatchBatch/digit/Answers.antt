@@ -1,3 +1,4 @@
+-- The digit of the term that is spelled.
 use mathlib.Core.Path.{_≡_, subst}
 use lib.IntN.{ℤ}
 use mir.Syntax.{w32}

@@ -1,3 +1,4 @@
+-- The kind of the term that is spelled.
 use Rattle.batch.specs.TermKinds.{kind-of}
 use Rattle.batch.specs.declared.kind.Kind.the-variants.{Absent}
 use Rattle.list_batch.specs.WordTerms.{spelled}

@@ -1,3 +1,4 @@
+-- The top weight of the term that is spelled.
 use borrow.Author.Needs.{needs}
 use mathlib.Core.Path.{_∙_}
 use lib.IntN.{pos}

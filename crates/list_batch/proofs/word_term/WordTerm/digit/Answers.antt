@@ -1,3 +1,4 @@
+-- The start of a column, counted from the lowest bit of the word.
 use borrow.Author.Needs.{needs}
 use mathlib.Core.Path.{refl}
 use lib.IntN.{_-ℤ_}

@@ -1,3 +1,4 @@
+-- The weight above the digits, for both signs.
 use borrow.Author.Needs.{needs}
 use mathlib.Core.Path.{_∙_}
 use lib.IntN.{pos}
