@@ -1,18 +1,18 @@
 -- The whole units on both sides of the part left over are both on the grid exactly if the spacing there is no more than a unit.
 use Prim.Native.Nat.{ℕ, suc, _+_, _%_, _^_, _≤_}
-use mathlib.Core.Path.{_≡_, refl, sym, subst}
-use mathlib.Core.Bool.{Bool, true, false}
+use mathlib.Core.Path.{_≡_, sym, subst}
+use mathlib.Core.Bool.{Bool}
 use mathlib.Core.Logic.{inl, inr}
 use native.Mathlib.Omega.{arith}
 use native.Mathlib.Nat.{mod-one}
-use lib.IntN.{ℤ, pos, natAbs, _+ℤ_}
+use lib.IntN.{ℤ, pos, _+ℤ_}
 use lib.Signed.{_≤ℤ_, _<ℤ_}
 use lib.Ieee.{size}
 use borrow.Author.Differences.{ints}
 use Rattle.std.proofs.shelf.Signed.{by-ltZ}
 use Rattle.exact.specs.Integers.{signed, gap}
 use Rattle.exact.specs.Dyadic.{dyadic}
-use Rattle.exact.proofs.Integers.{abs-neg}
+use Rattle.exact.proofs.Signed.{abs-signed}
 use Rattle.exact.proofs.Scaling.{gap-none}
 use Rattle.exact.proofs.Multiples.{pow-multiple, multiple-coarser}
 use Rattle.exact.proofs.Parts.{size-next}
@@ -20,10 +20,6 @@ use Rattle.grid.specs.Rounding.{OnGrid}
 use Rattle.grid.proofs.Everywhere.{LawsEverywhere}
 use Rattle.grid.proofs.Members.{divided-on-grid, on-grid-divided}
 use Rattle.ends.specs.Ends.{Bordered, spacing-there}
-
-pub abs-signed : (s : Bool) (n : ℕ) → natAbs (signed s n) ≡ n
-abs-signed false n = refl
-abs-signed true n = abs-neg n
 
 -- n units are on the grid exactly if n is a multiple of the spacing in units
 units-divided : (u : ℤ → ℤ) (s : Bool) (n : ℕ) (w : ℤ) → OnGrid u (dyadic (signed s n) w) → n % 2 ^ gap (spacing-there u n w) w ≡ 0

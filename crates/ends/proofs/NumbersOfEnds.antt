@@ -19,6 +19,7 @@ use Rattle.exact.proofs.Integers.{sign-above, sign-below}
 use Rattle.exact.proofs.Scaling.{scale-neg, scale-signed, gap-split}
 use Rattle.exact.proofs.Order.{at-same, same-at, at-lt}
 use Rattle.exact.proofs.Parts.{size-parts}
+use Rattle.exact.proofs.Signed.{negative-signed}
 use Rattle.grid.specs.Rounding.{Mode, Way, near, cut, away, whole, multiple, way-of, rounded}
 use Rattle.grid.proofs.Everywhere.{LawsEverywhere}
 use Rattle.grid.proofs.Magnitudes.{to}
@@ -122,11 +123,6 @@ round-signed : (m : Mode) (k : ℕ → ℕ) (s : Bool) (X : ℕ) → 0 < X → r
 round-signed m k false X h = refl
 round-signed m k true zero h = absurd (omega arith)
 round-signed m k true (suc X) h = refl
-
-negative-signed : (s : Bool) (X : ℕ) → 0 < X → is-negative (signed s X) ≡ s
-negative-signed false X h = refl
-negative-signed true zero h = absurd (omega arith)
-negative-signed true (suc X) h = refl
 
 -- ---- directions
 sign-of-change : (s b : Bool) (V X : ℕ) → (b ≡ true → X < V) → (b ≡ false → V < X) → sign (signed s V -ℤ signed s X) ≡ direction-sign (toward s b true)

@@ -14,4 +14,5 @@ pub mod Shifts
 pub mod LimbBits
 pub mod LimbSteps
 pub mod Units
+pub mod Signed
 pub mod IntegerParts

@@ -33,7 +33,7 @@ value-split (suc i) (x ∷ xs) h =
     let t = value-split i xs (omega arith) in
     rw (t, pow-next-limb i) (omega (arith, mul-assoc d 4294967296 (2 ^ (32 * i)), mul-assoc 4294967296 d (2 ^ (32 * i)), mul-comm d 4294967296))
 
-pow-after : (i : ℕ) → 2 ^ (32 * (i + 1)) ≡ 4294967296 * 2 ^ (32 * i)
+pub pow-after : (i : ℕ) → 2 ^ (32 * (i + 1)) ≡ 4294967296 * 2 ^ (32 * i)
 pow-after i = ap (λ (y : ℕ). 2 ^ y) (let e : 32 * (i + 1) ≡ 32 + 32 * i = omega arith in e) ∙ pow-add 2 32 (32 * i)
 
 -- it stays below the next power

@@ -12,3 +12,4 @@ mod Unique
 mod Resting
 mod Assembling
 mod LimbLists
+mod Joining

@@ -3,6 +3,8 @@ mod comparing;
 pub mod end;
 mod settling;
 pub mod sum;
+mod theory;
 
 pub use end::End;
 pub use sum::PartialSum;
+pub use theory::ends_stand;

@@ -6,13 +6,12 @@ use mathlib.Core.List.{List, [], _∷_, _++_}
 use native.Mathlib.Omega.{arith}
 use lib.IntN.{ℤ, pos, negℤ, _+ℤ_, _*ℤ_}
 use lib.ListN.{getD, set, length, take}
-use lib.Pow.{pow-add}
 use borrow.Author.Differences.{up, down, neg-is}
 use Rattle.std.proofs.shelf.Signed.{ints}
 use Rattle.std.proofs.shelf.Lists.{take-more, length-take-le, take-all}
 use Rattle.exact.specs.Limbs.{limbs-value}
 use Rattle.exact.proofs.LimbBits.{pow-next-limb}
-use Rattle.exact.proofs.LimbSteps.{value-set}
+use Rattle.exact.proofs.LimbSteps.{value-set, pow-after}
 use Rattle.exact.proofs.IntegerParts.{carry-over, digit-before}
 use Rattle.totals.specs.Totals.{totals-value, flipped}
 
@@ -38,10 +37,9 @@ pub carry-step : (f : Bool) (ts : List ℤ) (s : List ℕ) (i l : ℕ) (c q : �
 carry-step f ts s i l c q lt same digit value =
     let t = getD ts i (pos 0) in
     let P = 2 ^ (32 * i) in
-    let Q : 2 ^ (32 * (i + 1)) ≡ 4294967296 * P = ap (λ (y : ℕ). 2 ^ y) (let e : 32 * (i + 1) ≡ 32 + 32 * i = omega arith in e) ∙ pow-add 2 32 (32 * i) in
     let ls : i < length s = omega arith in
     ap (flipped f) (totals-more ts i lt) ∙ flipped-sum f t (totals-value (take i ts)) P
-    ∙ carry-over (flipped f t) c q (flipped f (totals-value (take i ts))) l (limbs-value (take i s)) P (2 ^ (32 * (i + 1))) digit value Q
+    ∙ carry-over (flipped f t) c q (flipped f (totals-value (take i ts))) l (limbs-value (take i s)) P (2 ^ (32 * (i + 1))) digit value (pow-after i)
     ∙ ap (λ (y : ℕ). q *ℤ pos (2 ^ (32 * (i + 1))) +ℤ pos y) (sym (value-set s i l ls))
 
 pub carry-end : (f : Bool) (ts : List ℤ) (s : List ℕ) (i : ℕ) (c : ℤ) → i ≡ length ts → length ts ≡ length s

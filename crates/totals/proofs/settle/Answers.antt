@@ -2,9 +2,8 @@
 use borrow.Author.Needs.{needs}
 use native.Mathlib.Omega.{arith}
 use Prim.Native.Nat.{_+_, _*_, _^_}
-use mathlib.Core.Path.{_≡_, refl, sym, ap, subst, _∙_}
-use mathlib.Core.Bool.{true}
-use lib.IntN.{ℤ, pos, negsuc, natAbs}
+use mathlib.Core.Path.{_≡_, sym, ap, subst, _∙_}
+use lib.IntN.{ℤ, pos, natAbs}
 use lib.Signed.{_<ℤ_}
 use lib.ListN.{length}
 use mir.Syntax.{w64}
@@ -12,13 +11,10 @@ use mir.Val.{SFits}
 use Rattle.std.proofs.shelf.Signed.{ints, toZ-ofZ}
 use Rattle.exact.specs.Integers.{is-negative}
 use Rattle.exact.specs.Limbs.{limbs-value}
+use Rattle.exact.proofs.Signed.{negative-below}
 use Rattle.exact.proofs.IntegerParts.{parts-natural, opposite-natural, opposite-magnitude}
 use Rattle.totals.specs.Totals.{totals-value}
 use Rattle.totals.proofs.settle.Needs as need
-
-negative-below : (z : ℤ) → z <ℤ pos 0 → true ≡ is-negative z
-negative-below (pos n) h = absurd (omega (arith, ints))
-negative-below (negsuc n) h = refl
 
 pub returns-then-carry-ge0 : need.returns-then-carry-ge0
 returns-then-carry-ge0 c =
@@ -54,6 +50,6 @@ returns c =
     let fits : SFits w64 d = search needs in
     let both = opposite-magnitude V (c .carry-up-carry .result) d P _ M (first .below) (second .below) (first .value) (second .value) minus in
     record {
-      negative = negative-below V (both .0);
+      negative = sym (negative-below V (both .0));
       magnitude = subst (λ (z : ℤ). natAbs z * P + M ≡ natAbs V) (sym (toZ-ofZ w64 d fits)) (sym (both .1));
     }
