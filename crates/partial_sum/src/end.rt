@@ -14,7 +14,7 @@ pub struct End {
 // A unit of a column in units of the next.
 const UNIT: i64 = 0x1_0000_0000;
 
-// So many units of a column, in units of the column above it.
+// So many units of a column, in units of the column above it. For the ends of a partial sum, whose rest is within 2^43.
 pub fn one_column_up(units: i64) -> End
     requires { ⌜ natAbs units ≤ 2 ^ 44 ⌝ }
     ensures placed { λ r. ⌜ Placed (r .partial) 32 units (r .offset) ⌝ }
@@ -33,7 +33,7 @@ pub fn one_column_up(units: i64) -> End
     }
 }
 
-// So many units of a column, in units of a column two or more above it. They are less than one.
+// So many units of a column, in units of a column two or more above it. They are less than one. For the same ends.
 pub fn far_up(units: i64) -> End
     requires { ⌜ natAbs units ≤ 2 ^ 44 ⌝ }
     ensures placed { λ r. ⌜ ((k : ℕ) → 64 ≤ k → Placed (r .partial) k units (r .offset)) ⌝ }
