@@ -1,4 +1,6 @@
 // What an ask must answer: the definition of the answer, the laws that every answer obeys, and the law over whole histories. Theory, and no code.
+#![tactic(auto)]
+
 ghost use Rattle.answers.specs.Examples.{EntriesHold};
 ghost use Rattle.answers.specs.Laws.{AnswersRight, AnswersEnclose};
 ghost use Rattle.answers.specs.Trace.{TraceStarts, TraceGoesOn};

@@ -1,4 +1,6 @@
 // Asks: the marked terms of a batch, summed exactly and rounded once to a grid.
+#![tactic(auto)]
+
 mod answer;
 mod both;
 mod checking;

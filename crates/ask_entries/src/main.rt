@@ -1,4 +1,5 @@
 // Makes entries from their terms to their answers, and prints each call and what came of it.
+#![tactic(auto)]
 
 mod asks;
 mod list;

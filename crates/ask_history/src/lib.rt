@@ -1,4 +1,5 @@
 // Any list of calls, as data, asks among them, run on one new sheet: what each call got, and the sheet that it leads to.
+#![tactic(auto)]
 
 mod asking;
 pub mod call;

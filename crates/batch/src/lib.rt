@@ -1,4 +1,6 @@
 // Batches: what a term is, and the interface through which the terms of any batch are read.
+#![tactic(auto)]
+
 mod fault;
 mod interface;
 mod kind;

@@ -1,4 +1,6 @@
 // Callers of each batch, which count its regular terms, and tests of the batches at the edges of what they take.
+#![tactic(auto)]
+
 ghost use Rattle.std.specs.Prelude.{◌≡◌, length, IfOk};
 ghost use Rattle.std.specs.Result.{result_err};
 ghost use Rattle.batch.specs.Term.{regular_terms};

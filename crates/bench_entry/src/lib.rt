@@ -1,4 +1,6 @@
 // The entry of the benchmark: one batch, one sheet on which all its terms are in, and the same ask again and again.
+#![tactic(auto)]
+
 ghost use Rattle.std.specs.Prelude.{◌≡◌, true, length, pos, neg_ℤ, is_err};
 ghost use Rattle.sheet.specs.Shown.{shown};
 ghost use Rattle.answers.specs.Asked.{question, asked};

@@ -1,4 +1,6 @@
 // Columns: how an exact sum is gathered column by column from the top, and how many columns settle what it rounds to.
+#![tactic(auto)]
+
 mod counted;
 mod theory;
 

@@ -1,4 +1,6 @@
 // The exact sum of the counted terms, rounded once: columns from the top down, until the two ends round alike.
+#![tactic(auto)]
+
 ghost use Rattle.std.specs.Prelude.{◌≡◌, length, Some};
 ghost use Rattle.exact.specs.Limbs.{limbs_value};
 ghost use Rattle.grid.specs.Modes.{mode_of};

@@ -1,4 +1,5 @@
 // Tests at the edges of what a sheet takes. The contracts say it for all numbers; these show it run.
+#![tactic(auto)]
 
 #[cfg(test)]
 mod tests {

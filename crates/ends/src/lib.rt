@@ -1,4 +1,6 @@
 // Rounding one end of a sum, from limbs to limbs, to any grid and in any mode.
+#![tactic(auto)]
+
 mod decision;
 mod direction;
 mod rounded_end;

@@ -1,4 +1,6 @@
 // Examples of rounding one end, each proved and run.
+#![tactic(auto)]
+
 #[cfg(test)]
 mod tests {
     use ends::{Direction, round_end};

@@ -1,4 +1,6 @@
 // Theory of the exact numbers n * 2^w: the contract of each function states laws that are proved once, here.
+#![tactic(auto)]
+
 ghost use Rattle.exact.specs.Claims.{OrderReflexive, OrderTransitive, OrderAntisymmetric, OrderTotal, OrderStrict};
 ghost use Rattle.exact.specs.Claims.{Equivalence, EqualBothWays};
 ghost use Rattle.exact.specs.Claims.{SumCommutative, SumAssociative, SumMonotone, SumInverse};

@@ -1,4 +1,6 @@
 // Grids of numbers: their interface, the free, floored and named grids, and the theory of rounding to any grid.
+#![tactic(auto)]
+
 mod fault;
 mod floored;
 mod free;

@@ -1,4 +1,6 @@
 // Limb batches: terms given as records over a shared pool of 32-bit limbs, both lent.
+#![tactic(auto)]
+
 mod check;
 mod digit;
 mod opened;

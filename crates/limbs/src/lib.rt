@@ -1,4 +1,6 @@
 // Numbers in limbs of 32 bits, the least significant first: reading their bits, and writing their first bits at the top of other limbs.
+#![tactic(auto)]
+
 mod bits;
 mod top;
 

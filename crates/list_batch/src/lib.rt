@@ -1,4 +1,6 @@
 // List batches: the terms of a lent slice of records, each of one or two terms.
+#![tactic(auto)]
+
 mod list;
 mod pair;
 mod record;

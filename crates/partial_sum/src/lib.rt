@@ -1,4 +1,6 @@
 // The sum of many terms as far as one column, exactly, in a fixed amount of memory.
+#![tactic(auto)]
+
 mod comparing;
 pub mod end;
 mod settling;

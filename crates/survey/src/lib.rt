@@ -1,4 +1,6 @@
 // What can be said of a sum before any number is added: which kinds of terms count, and whether a mark has no term.
+#![tactic(auto)]
+
 mod class;
 mod kinds;
 mod places;

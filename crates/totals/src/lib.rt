@@ -1,4 +1,6 @@
 // Signed totals of columns, settled as a sign and a magnitude in limbs, the least significant first.
+#![tactic(auto)]
+
 ghost use Rattle.std.specs.Prelude.{◌≡◌, ◌+◌, ◌*◌, ◌^◌, ◌<◌, ◌≤◌, length, pos, ◌+ℤ◌, ◌*ℤ◌, unsigned_abs};
 ghost use Rattle.exact.specs.Integers.{is_negative};
 ghost use Rattle.exact.specs.Limbs.{limbs_value};

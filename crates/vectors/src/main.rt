@@ -17,6 +17,7 @@
 //     no NUMBER
 //
 // The direction is -1, 0 or 1. The limbs are those of the precision, eight digits each: none where the answer is not regular.
+#![tactic(auto)]
 
 mod answering;
 mod case;

@@ -1,5 +1,6 @@
 // Goes through two entries, call by call, then through one as a list of calls, then through some grids, batches and
 // columns, and prints what came of each.
+#![tactic(auto)]
 
 mod batches;
 mod columns;

@@ -1,4 +1,6 @@
 // A set sheet on which the first terms are all in.
+#![tactic(auto)]
+
 ghost use Rattle.std.specs.Prelude.{◌≡◌, ℕ, ◌+◌, ◌%◌, ◌<◌, MatchResult};
 ghost use Rattle.sheet.specs.declared.fault.SheetFault.TheVariants.{NoSuchPlace};
 ghost use Rattle.sheet.specs.Shown.{shown};
