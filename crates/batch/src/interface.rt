@@ -32,7 +32,7 @@ pub trait Batch {
 
 // How many terms of a batch are regular.
 pub fn regular_count<B: Batch>(b: &B) -> usize
-    ensures { result ≡ regular_terms (terms b.now) }
+    ensures { result ≡ regular_terms (B.terms b.now) }
 {
     let mut found: usize = 0;
     for i in 0..b.count() {

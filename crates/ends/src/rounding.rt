@@ -191,12 +191,12 @@ pub fn round_end<G: Grid>(
 ) -> Option<RoundedEnd>
     requires whole { length whole.now ≤ most_limbs }
     requires few { length answer.old ≤ most_limbs }
-    requires room { widest grid.now ≤ 32 * length answer.old }
+    requires room { G.widest grid.now ≤ 32 * length answer.old }
     requires from { neg_ℤ (pos furthest_column) ≤ℤ column }
     requires upto { column ≤ℤ pos furthest_column }
     requires nonzero { partial ≡ false → 0 < limbs_value whole.now }
-    ensures outcome { Outcome (spacing grid.now) (mode_of mode) negative partial (limbs_value whole.now) (pos 32 *ℤ column) result (limbs_value answer.new) }
-    ensures undetermined { Undetermined (spacing grid.now) negative partial (limbs_value whole.now) (pos 32 *ℤ column) result }
+    ensures outcome { Outcome (G.spacing grid.now) (mode_of mode) negative partial (limbs_value whole.now) (pos 32 *ℤ column) result (limbs_value answer.new) }
+    ensures undetermined { Undetermined (G.spacing grid.now) negative partial (limbs_value whole.now) (pos 32 *ℤ column) result }
     ensures unused { Unused result answer.old answer.new }
 {
     let bits = bit_length(whole);

@@ -19,20 +19,20 @@ fn digits_from(last: i32, top: i32) -> u32
 
 // How many digits the numbers of exponent e have on the grid: none where the spacing is not below e.
 pub fn precision_at<G: Grid>(g: &G, e: i32) -> u32
-    ensures precision { result ≡ gap (nearest_end e) (spacing g.now e) }
-    ensures within { result ≤ widest g.now }
-    ensures neighbours { Neighbours (spacing g.now) }
-    ensures right { Right (spacing g.now) }
-    ensures distance { Distance (spacing g.now) }
-    ensures monotone { Monotone (spacing g.now) }
-    ensures between { Between (spacing g.now) }
-    ensures apart { Apart (spacing g.now) }
-    ensures exact { Exact (spacing g.now) }
-    ensures enclosure { Enclosure (spacing g.now) }
-    ensures direction { Direction (spacing g.now) }
-    ensures sign { Sign (spacing g.now) }
-    ensures congruent { Congruent (spacing g.now) }
-    ensures digits { Digits (spacing g.now) (widest g.now) }
+    ensures precision { result ≡ gap (nearest_end e) (G.spacing g.now e) }
+    ensures within { result ≤ G.widest g.now }
+    ensures neighbours { Neighbours (G.spacing g.now) }
+    ensures right { Right (G.spacing g.now) }
+    ensures distance { Distance (G.spacing g.now) }
+    ensures monotone { Monotone (G.spacing g.now) }
+    ensures between { Between (G.spacing g.now) }
+    ensures apart { Apart (G.spacing g.now) }
+    ensures exact { Exact (G.spacing g.now) }
+    ensures enclosure { Enclosure (G.spacing g.now) }
+    ensures direction { Direction (G.spacing g.now) }
+    ensures sign { Sign (G.spacing g.now) }
+    ensures congruent { Congruent (G.spacing g.now) }
+    ensures digits { Digits (G.spacing g.now) (G.widest g.now) }
 {
     digits_from(g.spacing(e), nearest_end(e))
 }

@@ -41,6 +41,6 @@ returns-in-Ok c =
     sym (both_taken rs pool c.args.width c.args.mode (length old) ts c.in-Ok.grid.width
     (sym c.open-fault.ensures.refuses ∙ c.in-default.is) (sym c.in-Ok.ensures.refuses) (sym terms) (sym c.in-Ok.ensures.means.1)) in
     record {
-      returned = returned_as c.ask-all.result (asked_of_all ts c.in-Ok.grid.width c.args.mode (length old)) _ (search rules) c.ask-all.ensures.returned e;
-      left = c.ask-all.ensures.left ∙ ap (λ (a : Reply). limbs_left a old) e;
+      returned = returned_as c.ask_all.result (asked_of_all ts c.in-Ok.grid.width c.args.mode (length old)) _ (search rules) c.ask_all.ensures.returned e;
+      left = c.ask_all.ensures.left ∙ ap (λ (a : Reply). limbs_left a old) e;
     }

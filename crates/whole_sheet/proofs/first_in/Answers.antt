@@ -4,19 +4,19 @@ use Rattle.whole_sheet.specs.FirstPlaces.{first_in}
 use Rattle.whole_sheet.proofs.Marking.{set_shows, refused_exit}
 use Rattle.whole_sheet.proofs.first_in.Goals as goal
 
-pub returns-in-err-mark-next : goal.returns-in-err-mark-next
-returns-in-err-mark-next c =
+pub returns-in_err-mark_next : goal.returns-in_err-mark_next
+returns-in_err-mark_next c =
     let place = c.loop-place.place in
     let inv = c.loop-place.invariant in
-    let told = c.in-err-mark-next.ensures (place % 256) (omega arith) (c.with-room-sheet.ensures place inv.0 inv.1 inv.2) in
-    refused_exit c.args.count c.from-residual.result c.in-err-mark-next.field-0.0 c.from-residual.ensures.1 told.0 (omega (arith, told.1, c.loop-place-test.true))
+    let told = c.in_err-mark_next.ensures (place % 256) (omega arith) (c.with_room-sheet.ensures place inv.0 inv.1 inv.2) in
+    refused_exit c.args.count c.from_residual.result c.in_err-mark_next.field-0.0 c.from_residual.ensures.1 told.0 (omega (arith, told.1, c.loop-place-test.true))
 
 pub loop-place-preserved : goal.loop-place-preserved
 loop-place-preserved c =
     let place = c.loop-place.place in
     let inv = c.loop-place.invariant in (
       place % 256 + 1,
-      c.in-ok-mark-next.ensures (place % 256) (omega arith) (c.with-room-sheet.ensures place inv.0 inv.1 inv.2),
+      c.in_ok-mark_next.ensures (place % 256) (omega arith) (c.with_room-sheet.ensures place inv.0 inv.1 inv.2),
       (λ some. omega (arith, some)),
     )
 

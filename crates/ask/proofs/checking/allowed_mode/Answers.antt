@@ -4,7 +4,7 @@ use Rattle.sheet.specs.Shown.{shown}
 use Rattle.ask.proofs.FoundPlaces.{lowest_within}
 use Rattle.ask.proofs.checking.allowed_mode.Goals as goal
 
-pub overflow-cast-result : goal.overflow-cast-result
-overflow-cast-result c =
-    let h = lowest_within (shown c.args.marks.now) c.args.terms c.in-Some-lowest-marked-from.place (sym c.in-Some-lowest-marked-from.is ∙ c.lowest-marked-from.ensures) in
+pub overflow_cast-result : goal.overflow_cast-result
+overflow_cast-result c =
+    let h = lowest_within (shown c.args.marks.now) c.args.terms c.in-Some-lowest_marked_from.place (sym c.in-Some-lowest_marked_from.is ∙ c.lowest_marked_from.ensures) in
     omega arith

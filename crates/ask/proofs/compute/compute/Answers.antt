@@ -11,14 +11,14 @@ use Rattle.ask.proofs.compute.compute.Goals as goal
 
 pub returns-in-NotANumber : goal.returns-in-NotANumber
 returns-in-NotANumber g c =
-    c.plain-answer.ensures
+    c.plain_answer.ensures
     ∙ answer_by_class (shown c.args.marks.now) (g.B.Batch.terms c.args.batch.now) (found c.new-kinds.result) c.new-kinds.ensures
     NanSum (g.G.Grid.spacing c.args.grid.now) (mode_of c.args.mode) (length c.args.limbs.now) c.in-NotANumber.ensures
 
 pub returns-in-Infinite : goal.returns-in-Infinite
 returns-in-Infinite g c =
-    c.plain-answer-in-Infinite.ensures
-    ∙ ap (λ (k : Kind). plain k (pos 0) 0 (length c.args.limbs.now)) c.infinity-of-sign.ensures
+    c.plain_answer-in-Infinite.ensures
+    ∙ ap (λ (k : Kind). plain k (pos 0) 0 (length c.args.limbs.now)) c.infinity_of_sign.ensures
     ∙ answer_by_class (shown c.args.marks.now) (g.B.Batch.terms c.args.batch.now) (found c.new-kinds.result) c.new-kinds.ensures
     (Infinite c.in-Infinite.negative) (g.G.Grid.spacing c.args.grid.now) (mode_of c.args.mode) (length c.args.limbs.now) c.in-Infinite.ensures
 

@@ -22,7 +22,7 @@ returns-in-None g c =
     let m = mode_of c.args.mode in
     let ps = parts_of (shown c.args.marks.now) (g.B.Batch.terms c.args.batch.now) in
     let n = length c.args.limbs.now in
-    c.plain-answer.ensures
+    c.plain_answer.ensures
     ∙ ap (λ (k : Kind). plain k (pos 0) 0 n) c.zero_of_sign.ensures
     ∙ answer_of_none c.args.zero_negative u m ps n c.in-None.ensures
     ∙ ap (λ (b : Bool). sum_answer b u m ps n) c.requires

@@ -21,8 +21,8 @@ pub returns-then-not-end : goal.returns-then-not-end
 returns-then-not-end c u m ps told =
     let r = c.args.rounded.end in
     published_alike (direction_sign r.direction) (direction_sign r.direction)
-    (ap kind_number c.number_of_sign.ensures) (to_z-of_z w32 r.exponent (search rules)) refl refl refl c.copy-limbs.ensures
-    ∙ answer_of_number c.args.exact-zero-negative u m ps (length c.args.limbs.now) r c.args.rounded.depth (limbs_value c.args.sum.now) told (not-true r.zero c.if-not-end.true)
+    (ap kind_number c.number_of_sign.ensures) (to_z-of_z w32 r.exponent (search rules)) refl refl refl c.copy_limbs.ensures
+    ∙ answer_of_number c.args.exact_zero_negative u m ps (length c.args.limbs.now) r c.args.rounded.depth (limbs_value c.args.sum.now) told (not-true r.zero c.if-not-end.true)
 
 pub returns : goal.returns
 returns c u m ps told =
@@ -30,11 +30,11 @@ returns c u m ps told =
     let d = c.args.rounded.depth in
     let a = limbs_value c.args.sum.now in
     let n = length c.args.limbs.now in
-    c.plain-answer.ensures
+    c.plain_answer.ensures
     ∙ ap (λ (k : Kind). plain k (direction_sign r.direction) d n) c.zero_of_sign.ensures
     ∙ elim c.match-end.branch [
       | in-Exact w ↦ ap (λ (b : Bool). plain (zero_of_sign b) (direction_sign r.direction) d n) w.negative-is
-          ∙ answer_of_exact_zero c.args.exact-zero-negative u m ps n r d a told (not-false r.zero c.if-not-end.false) w.in-Exact.is
+          ∙ answer_of_exact_zero c.args.exact_zero_negative u m ps n r d a told (not-false r.zero c.if-not-end.false) w.in-Exact.is
       | in-Below w ↦ ap (λ (b : Bool). plain (zero_of_sign b) (direction_sign r.direction) d n) w.negative-is
-          ∙ answer_of_inexact_zero c.args.exact-zero-negative u m ps n r d a told (not-false r.zero c.if-not-end.false) (inexact r.direction w.in-Below.is)
+          ∙ answer_of_inexact_zero c.args.exact_zero_negative u m ps n r d a told (not-false r.zero c.if-not-end.false) (inexact r.direction w.in-Below.is)
     ]

@@ -8,19 +8,19 @@ use Rattle.ask.specs.Told.{told}
 use Rattle.ask.proofs.Asking.{as_read, told_refused, ask_right, ask_encloses, ask_answers, ask_reached}
 use Rattle.ask.proofs.single.ask.Goals as goal
 
-pub returns-in-err-mode : goal.returns-in-err-mode
-returns-in-err-mode g c =
+pub returns-in_err-mode : goal.returns-in_err-mode
+returns-in_err-mode g c =
     let ts = g.B.Batch.terms c.args.batch.now in
     let u = g.G.Grid.spacing c.args.grid.now in
     let n = length c.args.limbs.now in
     let ls = c.args.limbs.now in
-    let r = c.from-residual.result in
+    let r = c.from_residual.result in
     let shows = shown c.args.sheet.now.marks in
     let q : Question = question ts u (g.G.Grid.widest c.args.grid.now) c.args.mode n in
     let proper : Proper q = record { batchable = g.B.Batch.limited c.args.batch.now; lawful = g.G.Grid.lawful c.args.grid.now } in
     let equals : told r ls ≡ asked shows q =
-    told_refused c.in-err-mode.field-0.0 r ls c.from-residual.ensures.1
-    ∙ sym (c.in-err-mode.ensures ts u (sym c.count.ensures))
+    told_refused c.in_err-mode.field-0.0 r ls c.from_residual.ensures.1
+    ∙ sym (c.in_err-mode.ensures ts u (sym c.count.ensures))
     ∙ as_read _ _ c.width.result _ ts u c.args.mode n c.marks-marks.ensures.same c.width.ensures in
     record {
       equals = equals;
@@ -43,7 +43,7 @@ returns g c =
     let proper : Proper q = record { batchable = g.B.Batch.limited c.args.batch.now; lawful = g.G.Grid.lawful c.args.grid.now } in
     let equals : told r ls ≡ asked shows q =
     ap answered c.compute.ensures
-    ∙ sym (c.in-ok-mode.ensures ts u (sym c.count.ensures))
+    ∙ sym (c.in_ok-mode.ensures ts u (sym c.count.ensures))
     ∙ as_read _ _ c.width.result _ ts u c.args.mode n c.marks-marks.ensures.same c.width.ensures in
     record {
       equals = equals;

@@ -11,13 +11,13 @@ pub returns-then-wanted-batches : goal.returns-then-wanted-batches
 returns-then-wanted-batches g c =
     let s = c.args.sheet.now in
     let x = c.index-batches-wanted.result in
-    subst (λ (ts : List Term). CallLaw (Set s) (asking (question_of g.G.Grid.spacing g.G.Grid.widest ts c.args.wanted)) (Set s) c.ask-about.result)
+    subst (λ (ts : List Term). CallLaw (Set s) (asking (question_of g.G.Grid.spacing g.G.Grid.widest ts c.args.wanted)) (Set s) c.ask_about.result)
     (sym (terms_named (λ b. g.B.Batch.terms b.now) c.args.batches.now c.args.wanted.batch x c.if-wanted-batches.true c.index-batches-wanted.is))
-    c.ask-about.ensures
+    c.ask_about.ensures
 
 pub returns-else-wanted-batches : goal.returns-else-wanted-batches
 returns-else-wanted-batches g c =
     let s = c.args.sheet.now in
-    subst (λ (ts : List Term). CallLaw (Set s) (asking (question_of g.G.Grid.spacing g.G.Grid.widest ts c.args.wanted)) (Set s) c.ask-about-else-wanted-batches.result)
+    subst (λ (ts : List Term). CallLaw (Set s) (asking (question_of g.G.Grid.spacing g.G.Grid.widest ts c.args.wanted)) (Set s) c.ask_about-else-wanted-batches.result)
     (sym (terms_past (λ b. g.B.Batch.terms b.now) c.args.batches.now c.args.wanted.batch c.if-wanted-batches.false))
-    c.ask-about-else-wanted-batches.ensures
+    c.ask_about-else-wanted-batches.ensures

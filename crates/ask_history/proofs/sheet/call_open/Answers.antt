@@ -18,16 +18,16 @@ pub returns-in-Mark : goal.returns-in-Mark
 returns-in-Mark g c = λ batches proper.
     let s = c.args.sheet in
     let t = c.mark-result.new.self in
-    subst (λ (d : Call Question). CallLaw (Open s) d (Open t) c.outcome-of.result) (sym (ap (call_of g.G.Grid.spacing g.G.Grid.widest batches) c.in-Mark.is))
-    (call_on_open s t (marking c.in-Mark.place c.in-Mark.mark) c.outcome-of.result c.mark-result.result tt refl refl c.outcome-of.ensures
+    subst (λ (d : Call Question). CallLaw (Open s) d (Open t) c.outcome_of.result) (sym (ap (call_of g.G.Grid.spacing g.G.Grid.widest batches) c.in-Mark.is))
+    (call_on_open s t (marking c.in-Mark.place c.in-Mark.mark) c.outcome_of.result c.mark-result.result tt refl refl c.outcome_of.ensures
     (λ cs a. ap reply_of (c.mark-result.ensures.answers cs a)) c.mark-result.ensures.reached c.mark-result.ensures.refused)
 
 pub returns-in-Undo : goal.returns-in-Undo
 returns-in-Undo g c = λ batches proper.
     let s = c.args.sheet in
     let t = c.undo-result.new.self in
-    subst (λ (d : Call Question). CallLaw (Open s) d (Open t) c.outcome-of-in-Undo.result) (sym (ap (call_of g.G.Grid.spacing g.G.Grid.widest batches) c.in-Undo.is))
-    (call_on_open s t undoing c.outcome-of-in-Undo.result c.undo-result.result tt refl refl c.outcome-of-in-Undo.ensures
+    subst (λ (d : Call Question). CallLaw (Open s) d (Open t) c.outcome_of-in-Undo.result) (sym (ap (call_of g.G.Grid.spacing g.G.Grid.widest batches) c.in-Undo.is))
+    (call_on_open s t undoing c.outcome_of-in-Undo.result c.undo-result.result tt refl refl c.outcome_of-in-Undo.ensures
     (λ cs a. ap reply_of (c.undo-result.ensures.answers cs a)) c.undo-result.ensures.reached c.undo-result.ensures.refused)
 
 pub returns-in-Set : goal.returns-in-Set

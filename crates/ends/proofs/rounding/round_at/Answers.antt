@@ -16,19 +16,19 @@ returns-then-place c = λ u W L vv xx.
     let n = limbs_value c.args.limbs.now in
     let place = c.args.place in
     let t = c.direction-direction.result in
-    let decision = c.decide-at-decision.result in
+    let decision = c.decide_at-decision.result in
     let unit : SFits w32 place.unit = search rules in
     let here : SFits w32 place.exponent = search rules in
     let U = to_z-of_z w32 place.unit unit in
-    let r = c.none-kept.result in
-    let a = limbs_value c.none-kept.new.answer in
-    let h : NoneKept c.args.negative place.unit decision.raise t r a = subst (λ (y : ℤ). NoneKept c.args.negative y decision.raise t r a) U c.none-kept.ensures in
+    let r = c.none_kept.result in
+    let a = limbs_value c.none_kept.new.answer in
+    let h : NoneKept c.args.negative place.unit decision.raise t r a = subst (λ (y : ℤ). NoneKept c.args.negative y decision.raise t r a) U c.none_kept.ensures in
     none_kept_right u (laws_everywhere u W L) (mode_of c.args.mode) c.args.negative c.args.partial n place.base place.exponent place.unit decision.raise decision.inexact
-    (c.requires.exponent ∙ ap (λ (y : ℕ). place.base +ℤ pos y) c.requires.bits) vv c.requires.nonzero c.requires.determined c.decide-at-decision.ensures
+    (c.requires.exponent ∙ ap (λ (y : ℕ). place.base +ℤ pos y) c.requires.bits) vv c.requires.nonzero c.requires.determined c.decide_at-decision.ensures
     (omega (arith, ints, c.if-place.true)) r a t c.direction-direction.ensures h
 
-pub some-kept-requires : goal.some-kept-requires
-some-kept-requires c =
+pub some_kept-requires : goal.some_kept-requires
+some_kept-requires c =
     let unit : SFits w32 c.args.place.unit = search rules in
     let here : SFits w32 c.args.place.exponent = search rules in
     let l : c.args.place.unit <ℤ c.args.place.exponent = omega (arith, ints, c.if-place.false) in
@@ -47,7 +47,7 @@ returns c = λ u W L vv xx.
     let n = limbs_value c.args.limbs.now in
     let place = c.args.place in
     let t = c.direction-direction.result in
-    let decision = c.decide-at-decision.result in
+    let decision = c.decide_at-decision.result in
     let p = gap place.exponent place.unit in
     let q = gap (place.exponent +ℤ pos 1) place.next in
     let unit : SFits w32 place.unit = search rules in
@@ -56,10 +56,10 @@ returns c = λ u W L vv xx.
     let i = c.requires.inside l in
     let pp : place.exponent ≡ place.unit +ℤ pos p = omega (arith, ints) in
     let qq : (place.exponent +ℤ pos 1) ≡ place.next +ℤ pos q = omega (arith, ints) in
-    let r = c.some-kept.result in
-    let a = limbs_value c.some-kept.new.answer in
-    let h = c.some-kept.ensures p q pp qq in
+    let r = c.some_kept.result in
+    let a = limbs_value c.some_kept.new.answer in
+    let h = c.some_kept.ensures p q pp qq in
     some_kept_right u (laws_everywhere u W L) (mode_of c.args.mode) c.args.negative c.args.partial n place.base place.exponent place.unit decision.raise decision.inexact
-    (c.requires.exponent ∙ ap (λ (y : ℕ). place.base +ℤ pos y) c.requires.bits) vv c.requires.nonzero c.requires.determined c.decide-at-decision.ensures
+    (c.requires.exponent ∙ ap (λ (y : ℕ). place.base +ℤ pos y) c.requires.bits) vv c.requires.nonzero c.requires.determined c.decide_at-decision.ensures
     p q pp (omega (arith, ints)) (qq ∙ ap (λ (y : ℤ). y +ℤ pos q) xx) r a t c.direction-direction.ensures
     (subst (λ (y : ℕ). SomeKept (n * 2 ^ p / 2 ^ y + bit decision.raise) c.args.negative place.exponent p q t r a) c.requires.bits h)

@@ -5,8 +5,8 @@ use Rattle.exact.specs.Limbs.{limbs_value}
 use Rattle.limbs.specs.Bits.{bit, limbs_for}
 use Rattle.ends.proofs.rounding.some_kept.Goals as goal
 
-pub returns-then-write-rounded : goal.returns-then-write-rounded
-returns-then-write-rounded c = λ p q pp qq.
+pub returns-then-write_rounded : goal.returns-then-write_rounded
+returns-then-write_rounded c = λ p q pp qq.
     let place = c.args.place in
     let n = limbs_value c.args.limbs.now in
     let unit : SFits w32 place.unit = search rules in
@@ -14,15 +14,15 @@ returns-then-write-rounded c = λ p q pp qq.
     let here : SFits w32 place.exponent = search rules in
     let e : to_z w32 (of_z w32 (to_z w32 (of_z w32 place.exponent) +ℤ pos 1)) ≡ place.exponent +ℤ pos 1 = omega (arith, ints, c.requires.cap) in
     let kept : c.distance-precision.result ≡ p = omega (arith, ints, c.distance-precision.ensures.is) in
-    let after : c.distance-precision-then-write-rounded.result ≡ q = omega (arith, ints, c.distance-precision-then-write-rounded.ensures.is, c.requires.cap) in (
+    let after : c.distance-precision-then-write_rounded.result ≡ q = omega (arith, ints, c.distance-precision-then-write_rounded.ensures.is, c.requires.cap) in (
       refl,
       refl,
       refl,
       inr (
         e,
         after,
-        c.write-power.ensures ∙ ap (λ (y : ℕ). 2 ^ (32 * limbs_for y) / 2) after,
-        subst (λ (y : ℕ). n * 2 ^ y / 2 ^ c.args.bits + bit c.args.raise ≡ 2 ^ y) kept c.if-write-rounded.ensures,
+        c.write_power.ensures ∙ ap (λ (y : ℕ). 2 ^ (32 * limbs_for y) / 2) after,
+        subst (λ (y : ℕ). n * 2 ^ y / 2 ^ c.args.bits + bit c.args.raise ≡ 2 ^ y) kept c.if-write_rounded.ensures,
       ),
     )
 
@@ -30,11 +30,11 @@ pub returns : goal.returns
 returns c = λ p q pp qq.
     let place = c.args.place in
     let n = limbs_value c.args.limbs.now in
-    let a = limbs_value c.write-rounded.new.answer in
+    let a = limbs_value c.write_rounded.new.answer in
     let unit : SFits w32 place.unit = search rules in
     let here : SFits w32 place.exponent = search rules in
     let kept : c.distance-precision.result ≡ p = omega (arith, ints, c.distance-precision.ensures.is) in
-    let w = c.if-write-rounded.ensures in (
+    let w = c.if-write_rounded.ensures in (
       refl,
       refl,
       refl,

@@ -17,7 +17,7 @@ returns g c =
     let back = to_z-of_z w32 e c.ranges.e in
     let top : c.nearest_end.result ≡ nearest_end e = c.nearest_end.ensures ∙ ap nearest_end back in
     let last : c.spacing.result ≡ u e = c.spacing.ensures ∙ ap u back in
-    let precise : c.digits-from.result ≡ gap (nearest_end e) (u e) = omega (arith, ints) in
+    let precise : c.digits_from.result ≡ gap (nearest_end e) (u e) = omega (arith, ints) in
     record {
       precision = precise;
       within = rw precise (precision_within u W L e);

@@ -14,22 +14,22 @@ returns-in-Mark c =
     let call = marking c.in-Mark.place c.in-Mark.mark in
     let is : call_of c.args.call ≡ call = ap call_of c.in-Mark.is in
     record {
-      answers = λ cs a. c.outcome-of.ensures ∙ c.mark-result.ensures.answers (fitting cs) a.1 ∙ sym (told_in_turn cs call a.0) ∙ ap (told_after cs) (sym is);
+      answers = λ cs a. c.outcome_of.ensures ∙ c.mark-result.ensures.answers (fitting cs) a.1 ∙ sym (told_in_turn cs call a.0) ∙ ap (told_after cs) (sym is);
       reaches = λ cs a.
           subst (λ (d : Call (Unit {0})). Reaches (cs ++ d ∷ []) (Open c.mark-result.new.self)) (sym is)
           (turns_open cs call c.mark-result.new.self a.0 a.0 (c.mark-result.ensures.reached (fitting cs) a.1));
-      refused = λ e. ap Open (c.mark-result.ensures.refused (told_err c.mark-result.result (ap is_some (sym c.outcome-of.ensures) ∙ e)));
+      refused = λ e. ap Open (c.mark-result.ensures.refused (told_err c.mark-result.result (ap is_some (sym c.outcome_of.ensures) ∙ e)));
     }
 
 pub returns-in-Undo : goal.returns-in-Undo
 returns-in-Undo c =
     let is : call_of c.args.call ≡ undoing = ap call_of c.in-Undo.is in
     record {
-      answers = λ cs a. c.outcome-of-in-Undo.ensures ∙ c.undo-result.ensures.answers (fitting cs) a.1 ∙ sym (told_in_turn cs undoing a.0) ∙ ap (told_after cs) (sym is);
+      answers = λ cs a. c.outcome_of-in-Undo.ensures ∙ c.undo-result.ensures.answers (fitting cs) a.1 ∙ sym (told_in_turn cs undoing a.0) ∙ ap (told_after cs) (sym is);
       reaches = λ cs a.
           subst (λ (d : Call (Unit {0})). Reaches (cs ++ d ∷ []) (Open c.undo-result.new.self)) (sym is)
           (turns_open cs undoing c.undo-result.new.self a.0 a.0 (c.undo-result.ensures.reached (fitting cs) a.1));
-      refused = λ e. ap Open (c.undo-result.ensures.refused (told_err c.undo-result.result (ap is_some (sym c.outcome-of-in-Undo.ensures) ∙ e)));
+      refused = λ e. ap Open (c.undo-result.ensures.refused (told_err c.undo-result.result (ap is_some (sym c.outcome_of-in-Undo.ensures) ∙ e)));
     }
 
 pub returns-in-Set : goal.returns-in-Set

@@ -10,5 +10,5 @@ returns-then-by-ge32 c = raised_away _ _ c.if-by-ge32.true
 pub returns : goal.returns
 returns c =
     let n = limbs_value c.args.limbs.now in
-    let low : c.from.result ≡ limbs_value c.args.limbs.now % 2 ^ 32 = c.from.ensures ∙ c.bits-at.ensures ∙ ap (λ (x : ℕ). x % 2 ^ 32) (div-one n) in
+    let low : c.from.result ≡ limbs_value c.args.limbs.now % 2 ^ 32 = c.from.ensures ∙ c.bits_at.ensures ∙ ap (λ (x : ℕ). x % 2 ^ 32) (div-one n) in
     ap (λ (x : ℕ). x * 2 ^ c.args.by % 2 ^ 64 % 2 ^ 32) low ∙ raised_low n (2 ^ c.args.by)

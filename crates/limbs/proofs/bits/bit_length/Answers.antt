@@ -16,7 +16,7 @@ returns-then-limbs-i-ne0 c =
     let e : c.loop-i.i ≡ i + 1 = omega arith in
     let z : limbs_value (drop (i + 1) xs) ≡ 0 = subst (λ (y : ℕ). limbs_value (drop y xs) ≡ 0) e c.loop-i.invariant.0 in
     record {
-      is = sym (size_by_top_limb xs i (λ i l. (c.type-inv.limbs i).fits) (omega arith) z (omega arith));
+      is = sym (size_by_top_limb xs i (λ i l. (c.type_inv.limbs i).fits) (omega arith) z (omega arith));
       few = omega (arith, c.loop-i.invariant.1);
     }
 

@@ -16,4 +16,4 @@ returns c =
     ∙ ap (λ (y : ℕ). (y + low) / 2 ^ (k % 32) % 4294967296) pair
     ∙ ap (λ (y : ℕ). (y * 4294967296 + low) / 2 ^ (k % 32) % 4294967296) c.limb-high.ensures
     ∙ ap (λ (y : ℕ). (get_or xs (k / 32 + 1) 0 * 4294967296 + y) / 2 ^ (k % 32) % 4294967296) c.limb-low.ensures
-    ∙ sym (bits_in_two_limbs xs k (λ i l. (c.type-inv.limbs i).fits))
+    ∙ sym (bits_in_two_limbs xs k (λ i l. (c.type_inv.limbs i).fits))

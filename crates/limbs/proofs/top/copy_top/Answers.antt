@@ -17,7 +17,7 @@ loop-j-preserved c =
     let N = n * 2 ^ (32 * k) / 2 ^ b in
     let v : c.if-j-count.answer ≡ N / 2 ^ (32 * j) % 4294967296 =
     elim c.if-j-count.branch [
-      | then-j-count w ↦ w.answer-is ∙ w.top-bits.ensures ∙ ap (λ (y : ℕ). y % 4294967296) (sym (top_digit n b k j w.if-j-count.true))
+      | then-j-count w ↦ w.answer-is ∙ w.top_bits.ensures ∙ ap (λ (y : ℕ). y % 4294967296) (sym (top_digit n b k j w.if-j-count.true))
       | else-j-count w ↦ w.answer-is ∙ sym (no_top_digit n b k j c.requires.short w.if-j-count.false)
     ] in
     digit_set s j c.if-j-count.answer N (omega (arith, c.loop-j.auto.answer)) c.loop-j.invariant v

@@ -5,9 +5,9 @@ use lib.Ieee.Bits.{of_bits-to_bits}
 use Rattle.list_batch.proofs.FloatBits.{to_bits_lem, is_nan_lem, nan_bits, nan_fits}
 use Rattle.list_batch.proofs.pair.pattern.Goals as goal
 
-pub returns-then-is-nan : goal.returns-then-is-nan
-returns-then-is-nan c =
-    let e = is_nan_lem c.args.x c.if-is-nan.ensures.value in
+pub returns-then-is_nan : goal.returns-then-is_nan
+returns-then-is_nan c =
+    let e = is_nan_lem c.args.x c.if-is_nan.ensures.value in
     record {
       bits = sym (ap (to_bits binary64) e ∙ nan_bits);
       back = ap (of_bits binary64) (sym nan_bits) ∙ of_bits-to_bits binary64 nan nan_fits ∙ sym e;

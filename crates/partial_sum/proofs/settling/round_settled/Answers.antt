@@ -13,10 +13,10 @@ use Rattle.partial_sum.proofs.settling.round_settled.Goals as goal
 use Rattle.partial_sum.proofs.settling.round_settled.Goals.{else-not-partial-via-then-not-partial+else-bits-eq0, else-not-partial-via-else-not-partial}
 
 pub returns-then-bits-eq0 : goal.returns-then-bits-eq0
-returns-then-bits-eq0 g c = λ v meant. nothing_rounds _ _ c.args.negative c.args.partial (limbs_value c.args.magnitude.now) v _ _ _ c.if-not-partial.true (no_bits (limbs_value c.args.magnitude.now) (sym c.bit-length-bits.ensures.is ∙ c.if-bits-eq0.true)) c.write-power.ensures refl refl refl meant
+returns-then-bits-eq0 g c = λ v meant. nothing_rounds _ _ c.args.negative c.args.partial (limbs_value c.args.magnitude.now) v _ _ _ c.if-not-partial.true (no_bits (limbs_value c.args.magnitude.now) (sym c.bit_length-bits.ensures.is ∙ c.if-bits-eq0.true)) c.write_power.ensures refl refl refl meant
 
-pub round-end-requires : goal.round-end-requires
-round-end-requires g c = record {
+pub round_end-requires : goal.round_end-requires
+round_end-requires g c = record {
   whole = c.requires.magnitude;
   few = c.requires.few;
   room = c.requires.room;
@@ -24,7 +24,7 @@ round-end-requires g c = record {
   upto = search rules;
   nonzero = λ whole.
       elim c.else-not-partial.branch [
-        | else-not-partial-via-then-not-partial+else-bits-eq0 w ↦ some_bits (limbs_value c.args.magnitude.now) (λ none. w.if-bits-eq0.false (c.bit-length-bits.ensures.is ∙ none))
+        | else-not-partial-via-then-not-partial+else-bits-eq0 w ↦ some_bits (limbs_value c.args.magnitude.now) (λ none. w.if-bits-eq0.false (c.bit_length-bits.ensures.is ∙ none))
         | else-not-partial-via-else-not-partial w ↦ absurd (not_both (sym whole ∙ w.if-not-partial.false))
       ];
 }
@@ -34,8 +34,8 @@ returns g c = λ v meant.
     let u = g.G.Grid.spacing c.args.grid.now in
     let d = to_z-of_z w32 c.args.column c.ranges.column in
     let n = limbs_value c.args.magnitude.now in
-    let a = limbs_value c.round-end.new.answer in
-    let r = c.round-end.result in
+    let a = limbs_value c.round_end.new.answer in
+    let r = c.round_end.result in
     as_rounded u (mode_of c.args.mode) c.args.negative c.args.partial n v (column_weight c.args.column) r a meant
-    (subst (λ (z : ℤ). Outcome u (mode_of c.args.mode) c.args.negative c.args.partial n (column_weight z) r a) d c.round-end.ensures.outcome)
-    (subst (λ (z : ℤ). Undetermined u c.args.negative c.args.partial n (column_weight z) r) d c.round-end.ensures.undetermined)
+    (subst (λ (z : ℤ). Outcome u (mode_of c.args.mode) c.args.negative c.args.partial n (column_weight z) r a) d c.round_end.ensures.outcome)
+    (subst (λ (z : ℤ). Undetermined u c.args.negative c.args.partial n (column_weight z) r) d c.round_end.ensures.undetermined)

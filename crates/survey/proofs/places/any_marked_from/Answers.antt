@@ -10,8 +10,8 @@ loop-place-init c = λ e. refl
 
 pub loop-place-preserved : goal.loop-place-preserved
 loop-place-preserved c =
-    λ e. let n = or_parts c.loop-place.any c.is-marked-any.result e in
-    c.loop-place.invariant n.0 ∙ marked_later (shown c.args.marks.now) c.loop-place.place c.loop-place-test.true (ap is_marked (sym c.at.ensures) ∙ sym c.is-marked-any.ensures ∙ n.1)
+    λ e. let n = or_parts c.loop-place.any c.is_marked-any.result e in
+    c.loop-place.invariant n.0 ∙ marked_later (shown c.args.marks.now) c.loop-place.place c.loop-place-test.true (ap is_marked (sym c.at.ensures) ∙ sym c.is_marked-any.ensures ∙ n.1)
 
 pub returns : goal.returns
 returns c = λ e. c.loop-place.invariant e ∙ marked_nowhere (shown c.args.marks.now) c.loop-place.place c.loop-place-test.false

@@ -10,5 +10,5 @@ pub returns-in-Open : goal.returns-in-Open
 returns-in-Open g c =
     let batches : List (List Term) = map (λ b. g.B.Batch.terms b.now) c.args.batches.now in
     let limited = named_batchable (λ b. g.B.Batch.terms b.now) (λ b. g.B.Batch.limited b.now) c.args.batches.now in
-    subst (λ (s : Sheet). CallLaw s (call_of g.G.Grid.spacing g.G.Grid.widest batches c.args.call) c.call-open.result.0 c.call-open.result.1) (sym c.in-Open.is)
-    (c.call-open.ensures batches (proper_call g.G.Grid.spacing g.G.Grid.widest batches g.G.Grid.lawful limited c.args.call))
+    subst (λ (s : Sheet). CallLaw s (call_of g.G.Grid.spacing g.G.Grid.widest batches c.args.call) c.call_open.result.0 c.call_open.result.1) (sym c.in-Open.is)
+    (c.call_open.ensures batches (proper_call g.G.Grid.spacing g.G.Grid.widest batches g.G.Grid.lawful limited c.args.call))

@@ -10,26 +10,26 @@ use Rattle.column.proofs.counted.CountedTerms.column_work.Goals as goal
 pub loop-i-init : goal.loop-i-init
 loop-i-init g c = listed_none (g.B.Batch.terms c.args.batch.now) c.args.self.now (to_z w32 (of_z w32 c.args.column))
 
-pub overflow-add-total : goal.overflow-add-total
-overflow-add-total g c =
+pub overflow_add-total : goal.overflow_add-total
+overflow_add-total g c =
     sum_fits (g.B.Batch.terms c.args.batch.now) c.args.self.now (to_z w32 (of_z w32 c.args.column)) c.loop-i.i _ c.loop-i.below c.loop-i.invariant
-    c.signed-digit-total.result c.signed-digit-total.ensures
+    c.signed_digit-total.result c.signed_digit-total.ensures
 
-pub overflow-add-below : goal.overflow-add-below
-overflow-add-below g c = let s = count_small (g.B.Batch.terms c.args.batch.now) c.args.self.now (to_z w32 (of_z w32 c.args.column)) c.loop-i.i _ c.loop-i.below c.loop-i.invariant in omega (arith, s)
+pub overflow_add-below : goal.overflow_add-below
+overflow_add-below g c = let s = count_small (g.B.Batch.terms c.args.batch.now) c.args.self.now (to_z w32 (of_z w32 c.args.column)) c.loop-i.i _ c.loop-i.below c.loop-i.invariant in omega (arith, s)
 
-pub loop-i-preserved-then-reaches-below : goal.loop-i-preserved-then-reaches-below
-loop-i-preserved-then-reaches-below g c =
+pub loop-i-preserved-then-reaches_below : goal.loop-i-preserved-then-reaches_below
+loop-i-preserved-then-reaches_below g c =
     listed_more (g.B.Batch.terms c.args.batch.now) c.args.self.now (to_z w32 (of_z w32 c.args.column)) c.loop-i.i _ c.loop-i.below c.loop-i.invariant
-    c.signed-digit-total.result c.reaches-below.result _ c.loop-i-test.true c.loop-i.auto.i c.signed-digit-total.ensures c.reaches-below.ensures
-    (ap (λ (b : Bool). c.loop-i.below + cond b 1 0) (sym c.if-reaches-below.true))
+    c.signed_digit-total.result c.reaches_below.result _ c.loop-i-test.true c.loop-i.auto.i c.signed_digit-total.ensures c.reaches_below.ensures
+    (ap (λ (b : Bool). c.loop-i.below + cond b 1 0) (sym c.if-reaches_below.true))
 
 pub loop-i-preserved : goal.loop-i-preserved
 loop-i-preserved g c =
     let none : c.loop-i.below ≡ c.loop-i.below + 0 = omega arith in
     listed_more (g.B.Batch.terms c.args.batch.now) c.args.self.now (to_z w32 (of_z w32 c.args.column)) c.loop-i.i _ c.loop-i.below c.loop-i.invariant
-    c.signed-digit-total.result c.reaches-below.result _ c.loop-i-test.true c.loop-i.auto.i c.signed-digit-total.ensures c.reaches-below.ensures
-    (none ∙ ap (λ (b : Bool). c.loop-i.below + cond b 1 0) (sym c.if-reaches-below.false))
+    c.signed_digit-total.result c.reaches_below.result _ c.loop-i-test.true c.loop-i.auto.i c.signed_digit-total.ensures c.reaches_below.ensures
+    (none ∙ ap (λ (b : Bool). c.loop-i.below + cond b 1 0) (sym c.if-reaches_below.false))
 
 pub returns : goal.returns
 returns g c =

@@ -12,11 +12,11 @@ loop-i-init g c = descent_none (g.B.Batch.terms c.args.batch.now) c.args.self.no
 
 pub loop-i-preserved : goal.loop-i-preserved
 loop-i-preserved g c =
-    let low : to_z w32 (of_z w32 c.low.result) ≡ c.low.result = omega (arith, ints, c.low.type-inv) in
-    let top : to_z w32 (of_z w32 c.top.result) ≡ c.top.result = omega (arith, ints, c.top.type-inv) in
+    let low : to_z w32 (of_z w32 c.low.result) ≡ c.low.result = omega (arith, ints, c.low.type_inv) in
+    let top : to_z w32 (of_z w32 c.top.result) ≡ c.top.result = omega (arith, ints, c.top.type_inv) in
     descent_more (g.B.Batch.terms c.args.batch.now) c.args.self.now (to_z w32 (of_z w32 c.args.below)) c.loop-i.i (to_z w32 (of_z w32 c.low.result))
-    (to_z w32 (of_z w32 c.top.result)) c.highest-spanned-spanned.result c.loop-i.highest c.higher-column-highest.result c.loop-i-test.true c.loop-i.auto.i
-    (low ∙ c.low.ensures) (top ∙ c.top.ensures) c.highest-spanned-spanned.ensures c.loop-i.invariant c.higher-column-highest.ensures
+    (to_z w32 (of_z w32 c.top.result)) c.highest_spanned-spanned.result c.loop-i.highest c.higher_column-highest.result c.loop-i-test.true c.loop-i.auto.i
+    (low ∙ c.low.ensures) (top ∙ c.top.ensures) c.highest_spanned-spanned.ensures c.loop-i.invariant c.higher_column-highest.ensures
 
 pub returns : goal.returns
 returns g c =

@@ -2,8 +2,8 @@
 use Rattle.column.proofs.SpannedColumns.{spans_none, highest_fits, spans_some}
 use Rattle.column.proofs.counted.walk.highest_spanned.Goals as goal
 
-pub overflow-cast-result : goal.overflow-cast-result
-overflow-cast-result c =
+pub overflow_cast-result : goal.overflow_cast-result
+overflow_cast-result c =
     highest_fits c.args.low c.args.top c.args.below c.ranges.low c.ranges.top c.ranges.below c.from.result c.from-2.result c.from-3.result c.min-highest.result
     c.from.ensures c.from-2.ensures c.from-3.ensures c.min-highest.ensures.value c.if-highest-lowest.false
 

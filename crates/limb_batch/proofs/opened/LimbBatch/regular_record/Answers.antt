@@ -6,15 +6,15 @@ use Rattle.limb_batch.proofs.opened.LimbBatch.regular_record.Goals as goal
 pub bounds-self-i : goal.bounds-self-i
 bounds-self-i c =
     let b = c.args.self.now in
-    inside b.pool.now b.records.now c.args.i _ _ c.kind.ensures c.is_regular.ensures c.if-is-regular.true
+    inside b.pool.now b.records.now c.args.i _ _ c.kind.ensures c.is_regular.ensures c.if-is_regular.true
 
-pub offset-bounds-self-i : goal.offset-bounds-self-i
-offset-bounds-self-i c =
+pub offset_bounds-self-i : goal.offset_bounds-self-i
+offset_bounds-self-i c =
     let b = c.args.self.now in
-    let there : c.args.i < length b.records.now = inside b.pool.now b.records.now c.args.i _ _ c.kind.ensures c.is_regular.ensures c.if-is-regular.true in
+    let there : c.args.i < length b.records.now = inside b.pool.now b.records.now c.args.i _ _ c.kind.ensures c.is_regular.ensures c.if-is_regular.true in
     search rules
 
-pub returns-then-is-regular : goal.returns-then-is-regular
-returns-then-is-regular c =
+pub returns-then-is_regular : goal.returns-then-is_regular
+returns-then-is_regular c =
     let b = c.args.self.now in
-    regular_there b.pool.now b.records.now c.args.i _ b.faultless _ _ c.kind.ensures c.is_regular.ensures c.if-is-regular.true
+    regular_there b.pool.now b.records.now c.args.i _ b.faultless _ _ c.kind.ensures c.is_regular.ensures c.if-is_regular.true

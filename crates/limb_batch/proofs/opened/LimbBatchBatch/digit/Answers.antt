@@ -12,8 +12,8 @@ returns-in-Some c =
     let b = c.args.self.now in
     let here = c.in-Some.ensures in
     let k = c.args.column in
-    answer_there (digit_at k) 0 c.digit-of.result b.pool.now b.records.now c.args.i _ here
-    (λ s. (rw (to_z-of_z w32 k c.ranges.column) at c.digit-of.ensures) ∙ ap (λ n. n % 2 ^ 32) (units_are b.pool.now _ b.words here.sound (column_weight k)))
+    answer_there (digit_at k) 0 c.digit_of.result b.pool.now b.records.now c.args.i _ here
+    (λ s. (rw (to_z-of_z w32 k c.ranges.column) at c.digit_of.ensures) ∙ ap (λ n. n % 2 ^ 32) (units_are b.pool.now _ b.words here.sound (column_weight k)))
 
 pub returns-in-None : goal.returns-in-None
 returns-in-None c =

@@ -11,8 +11,8 @@ pub returns-in-Some : goal.returns-in-Some
 returns-in-Some c =
     let b = c.args.self.now in
     let here = c.in-Some.ensures in
-    to_z-of_z w32 c.low-of.result (search rules)
-    ∙ answer_there low_weight (pos 0) c.low-of.result b.pool.now b.records.now c.args.i _ here (λ s. c.low-of.ensures)
+    to_z-of_z w32 c.low_of.result (search rules)
+    ∙ answer_there low_weight (pos 0) c.low_of.result b.pool.now b.records.now c.args.i _ here (λ s. c.low_of.ensures)
 
 pub returns-in-None : goal.returns-in-None
 returns-in-None c =

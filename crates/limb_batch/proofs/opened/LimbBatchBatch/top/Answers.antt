@@ -11,8 +11,8 @@ pub returns-in-Some : goal.returns-in-Some
 returns-in-Some c =
     let b = c.args.self.now in
     let here = c.in-Some.ensures in
-    to_z-of_z w32 c.top-of.result (search rules)
-    ∙ answer_there top_weight (pos 0) c.top-of.result b.pool.now b.records.now c.args.i _ here (λ s. c.top-of.ensures ∙ top_is b.pool.now _ b.words here.sound)
+    to_z-of_z w32 c.top_of.result (search rules)
+    ∙ answer_there top_weight (pos 0) c.top_of.result b.pool.now b.records.now c.args.i _ here (λ s. c.top_of.ensures ∙ top_is b.pool.now _ b.words here.sound)
 
 pub returns-in-None : goal.returns-in-None
 returns-in-None c =

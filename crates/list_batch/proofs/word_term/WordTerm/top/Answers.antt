@@ -5,8 +5,8 @@ use Rattle.batch.specs.Term.{top_weight}
 use Rattle.list_batch.proofs.WordAnswers.{asked_regular}
 use Rattle.list_batch.proofs.word_term.WordTerm.top.Goals as goal
 
-pub returns-then-is-regular : goal.returns-then-is-regular
-returns-then-is-regular c =
+pub returns-then-is_regular : goal.returns-then-is_regular
+returns-then-is_regular c =
     let w = c.args.self.now in
-    to_z-of_z w32 c.weight-above.result (search rules)
-    ∙ asked_regular top_weight (pos 0) c.weight-above.result w.kind w.magnitude w.weight c.is_regular.result c.is_regular.ensures c.if-is-regular.true (λ s. search (rules, to_z-of_z))
+    to_z-of_z w32 c.weight_above.result (search rules)
+    ∙ asked_regular top_weight (pos 0) c.weight_above.result w.kind w.magnitude w.weight c.is_regular.result c.is_regular.ensures c.if-is_regular.true (λ s. search (rules, to_z-of_z))

@@ -7,9 +7,9 @@ use Rattle.partial_sum.proofs.Absorbing.{appended, rested}
 
 pub returns-then-self-column : goal.returns-then-self-column
 returns-then-self-column c =
-    let q = c.extend-to.new.self in
+    let q = c.extend_to.new.self in
     let d = to_z-of_z w32 c.args.column c.ranges.column in
-    let x : Extended c.args.self.now q c.args.column = subst (λ (z : ℤ). Extended c.args.self.now q z) d c.extend-to.ensures in
+    let x : Extended c.args.self.now q c.args.column = subst (λ (z : ℤ). Extended c.args.self.now q z) d c.extend_to.ensures in
     let fits : SFits w32 q.lowest = search rules in
     let reached : q.lowest ≡ c.args.column = omega (arith, ints, c.if-self-column.true) in
     let both = appended c.args.self.now q _ c.args.total c.args.column c.requires.absorbs c.requires.appends x reached
@@ -18,9 +18,9 @@ returns-then-self-column c =
 
 pub returns-else-self-column : goal.returns-else-self-column
 returns-else-self-column c =
-    let q = c.extend-to.new.self in
+    let q = c.extend_to.new.self in
     let d = to_z-of_z w32 c.args.column c.ranges.column in
-    let x : Extended c.args.self.now q c.args.column = subst (λ (z : ℤ). Extended c.args.self.now q z) d c.extend-to.ensures in
+    let x : Extended c.args.self.now q c.args.column = subst (λ (z : ℤ). Extended c.args.self.now q z) d c.extend_to.ensures in
     let fits : SFits w32 q.lowest = search rules in
     let low : SFits w64 q.rest = search rules in
     let made : SFits w64 c.joined-self.result = search rules in

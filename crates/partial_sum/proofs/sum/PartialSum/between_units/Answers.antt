@@ -6,7 +6,7 @@ use Rattle.partial_sum.proofs.sum.PartialSum.between_units.Goals as goal
 pub returns : goal.returns
 returns c =
     let p = c.args.self.now in
-    let r = c.from-window.result in
+    let r = c.from_window.result in
     let fits : SFits w64 r.offset = search rules in
     let units = to_z-of_z w64 c.args.units c.ranges.units in
-    record { partial = refl; small = subst (λ (z : ℤ). nat_abs z ≤ 2 ^ 44) (sym (to_z-of_z w64 r.offset fits)) c.from-window.ensures.small; placed = subst (λ (z : ℤ). Between p c.args.units z) (sym (to_z-of_z w64 r.offset fits)) (subst (λ (z : ℤ). Between p z r.offset) units (r.partial, c.from-window.ensures.placed)) }
+    record { partial = refl; small = subst (λ (z : ℤ). nat_abs z ≤ 2 ^ 44) (sym (to_z-of_z w64 r.offset fits)) c.from_window.ensures.small; placed = subst (λ (z : ℤ). Between p c.args.units z) (sym (to_z-of_z w64 r.offset fits)) (subst (λ (z : ℤ). Between p z r.offset) units (r.partial, c.from_window.ensures.placed)) }

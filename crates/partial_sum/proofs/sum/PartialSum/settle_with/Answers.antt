@@ -5,8 +5,8 @@ use Rattle.partial_sum.specs.Holding.{slot}
 use Rattle.partial_sum.proofs.Slices.{slice_length, slice_value, slice_small, slot_small}
 use Rattle.partial_sum.proofs.sum.PartialSum.settle_with.Goals as goal
 
-pub settle-whole-requires : goal.settle-whole-requires
-settle-whole-requires c =
+pub settle_whole-requires : goal.settle_whole-requires
+settle_whole-requires c =
     let p = c.args.self.now in
     let fits : SFits w64 (slot p p.from) = search rules in
     let few = c.requires.few in
@@ -24,4 +24,4 @@ returns c =
     let v = to_z w64 (of_z w64 (to_z w64 (of_z w64 (slot p p.from)) +ℤ to_z w64 (of_z w64 c.args.offset))) in
     let is : v ≡ slot p p.from +ℤ c.args.offset = omega (arith, ints) in
     let value = slice_value p c.args.offset v is in
-    record { negative = c.settle-whole.ensures.negative ∙ ap is_negative value; magnitude = c.settle-whole.ensures.magnitude ∙ ap nat_abs value }
+    record { negative = c.settle_whole.ensures.negative ∙ ap is_negative value; magnitude = c.settle_whole.ensures.magnitude ∙ ap nat_abs value }

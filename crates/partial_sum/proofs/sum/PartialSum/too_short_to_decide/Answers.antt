@@ -14,10 +14,10 @@ returns-then-self g c =
     let lowest : SFits w32 p.lowest = search rules in
     let column : SFits w32 p.column = search rules in
     let here : p.column ≡ p.lowest = omega (arith, ints, c.if-self.true) in
-    let top = to_z w32 (of_z w32 c.top-exponent.result) in
-    let high : SFits w32 c.top-exponent.result = search rules in
+    let top = to_z w32 (of_z w32 c.top_exponent.result) in
+    let high : SFits w32 c.top_exponent.result = search rules in
     let spaced : SFits w32 c.spacing.result = search rules in
-    let upto : exponent (dyadic (window p) (column_weight p.lowest)) ≤ℤ top = omega (arith, ints, c.top-exponent.ensures) in
+    let upto : exponent (dyadic (window p) (column_weight p.lowest)) ≤ℤ top = omega (arith, ints, c.top_exponent.ensures) in
     record {
       whole = λ _. c.requires.sound.shaped.open_rest here;
       member = λ test. (let fine : u top ≤ℤ column_weight p.lowest = omega (arith, ints, test, c.spacing.ensures, c.requires.from, c.requires.upto) in sum_on_grid u (g.G.Grid.widest grid) (g.G.Grid.lawful grid) p c.requires.sound here top upto fine);

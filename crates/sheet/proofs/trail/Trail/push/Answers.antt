@@ -2,8 +2,8 @@ use Rattle.std.proofs.Common.{◌≡◌, ◌<◌, ◌≤◌, reverse, length, ta
 use Rattle.sheet.proofs.Stack.{pushed, stack_length}
 use Rattle.sheet.proofs.trail.Trail.push.Goals as goal
 
-pub returns-then-self-ge-LONGEST-TRAIL : goal.returns-then-self-ge-LONGEST-TRAIL
-returns-then-self-ge-LONGEST-TRAIL c =
+pub returns-then-self-ge-LONGEST_TRAIL : goal.returns-then-self-ge-LONGEST_TRAIL
+returns-then-self-ge-LONGEST_TRAIL c =
     let t = c.args.self.now in
     let long : length t.steps ≡ 256 = t.whole in
     let all : t.len ≤ length t.steps = omega (arith, t.fits) in

@@ -23,15 +23,15 @@ loop-place-init g c = (
   refl,
 )
 
-pub invariant-of-kinds : goal.invariant-of-kinds
-invariant-of-kinds g c = (c.loop-place.invariant.1, tt)
+pub invariant_of-kinds : goal.invariant_of-kinds
+invariant_of-kinds g c = (c.loop-place.invariant.1, tt)
 
 pub loop-place-preserved : goal.loop-place-preserved
 loop-place-preserved g c =
     let ks = map kind_of (g.B.Batch.terms c.args.batch.now) in
     let marks = shown c.args.marks.now in
     let i = c.loop-place.place in
-    let kind : c.counted-kind-kind.result ≡ counted_kind (marks i) (get_or ks i Absent) = c.counted-kind-kind.ensures ∙ ap₂ counted_kind c.at.ensures c.kind.ensures in
+    let kind : c.counted_kind-kind.result ≡ counted_kind (marks i) (get_or ks i Absent) = c.counted_kind-kind.ensures ∙ ap₂ counted_kind c.at.ensures c.kind.ensures in
     let within : c.loop-place.place < length (map kind_of (g.B.Batch.terms c.args.batch.now)) = omega (arith, length-map (g.B.Batch.terms c.args.batch.now) kind_of) in (
       λ k.
           c.add.ensures k
@@ -40,8 +40,8 @@ loop-place-preserved g c =
       c.add.new.self.whole,
     )
 
-pub invariant-of-kinds-2 : goal.invariant-of-kinds-2
-invariant-of-kinds-2 g c = (c.loop-place.invariant.1, tt)
+pub invariant_of-kinds-2 : goal.invariant_of-kinds-2
+invariant_of-kinds-2 g c = (c.loop-place.invariant.1, tt)
 
 pub returns : goal.returns
 returns g c = λ k.
