@@ -23,7 +23,7 @@ returns-in-Err c =
     let r = c.refusal-in-Err in
     let e =
     sym (grid_refused c.args.terms.now c.args.pool.now c.args.width c.args.mode (length old) c.in-Err.fault
-    (sym c.open-fault.ensures.refuses ∙ c.in-default.is) (sym c.in-Err.ensures.refuses)) in
+    (sym c.open-fault.ensures.refuses ∙ c.in_default.is) (sym c.in-Err.ensures.refuses)) in
     record {
       returned = refusal_returned r.result _ _ _ (search rules) r.ensures c.number-in-Err.ensures e;
       left = ap (λ (a : Reply). limbs_left a old) e;
@@ -36,10 +36,10 @@ returns-in-Ok c =
     let old = c.args.limbs.now in
     let batch = c.open-fault.result.0 in
     let ts = record_terms batch.pool.now batch.records.now in
-    let terms : ts ≡ record_terms pool rs = c.open-fault.ensures.means ∙ ap (λ (o : Option BatchFault). cond (is_some o) [] (record_terms pool rs)) c.in-default.is in
+    let terms : ts ≡ record_terms pool rs = c.open-fault.ensures.means ∙ ap (λ (o : Option BatchFault). cond (is_some o) [] (record_terms pool rs)) c.in_default.is in
     let e =
     sym (both_taken rs pool c.args.width c.args.mode (length old) ts c.in-Ok.grid.width
-    (sym c.open-fault.ensures.refuses ∙ c.in-default.is) (sym c.in-Ok.ensures.refuses) (sym terms) (sym c.in-Ok.ensures.means.1)) in
+    (sym c.open-fault.ensures.refuses ∙ c.in_default.is) (sym c.in-Ok.ensures.refuses) (sym terms) (sym c.in-Ok.ensures.means.1)) in
     record {
       returned = returned_as c.ask_all.result (asked_of_all ts c.in-Ok.grid.width c.args.mode (length old)) _ (search rules) c.ask_all.ensures.returned e;
       left = c.ask_all.ensures.left ∙ ap (λ (a : Reply). limbs_left a old) e;

@@ -7,7 +7,7 @@ use Rattle.exact.proofs.LimbSteps.{below_set}
 use Rattle.totals.specs.Totals.{flipped, totals_value}
 use Rattle.totals.proofs.Carries.{carry_step, carry_end}
 use Rattle.totals.proofs.carry_up.Goals as goal
-use Rattle.totals.proofs.carry_up.Goals.{then_flip, else-flip}
+use Rattle.totals.proofs.carry_up.Goals.{then-flip, else-flip}
 
 pub loop-i-preserved : goal.loop-i-preserved
 loop-i-preserved c =
@@ -25,13 +25,13 @@ loop-i-preserved c =
     let whole = c.split-q.ensures in
     let digit : flipped c.args.flip t +ℤ c.loop-i.carry ≡ q *ℤ pos 4294967296 +ℤ pos l =
     elim c.if-flip.branch [
-      | then_flip w ↦ ap (λ (b : Bool). flipped b t +ℤ c.loop-i.carry) w.if-flip.true ∙ omega (arith, ints, w.t-is, whole, small, c.loop-i.invariant.0)
+      | then-flip w ↦ ap (λ (b : Bool). flipped b t +ℤ c.loop-i.carry) w.if-flip.true ∙ omega (arith, ints, w.t-is, whole, small, c.loop-i.invariant.0)
       | else-flip w ↦ ap (λ (b : Bool). flipped b t +ℤ c.loop-i.carry) w.if-flip.false ∙ omega (arith, ints, w.t-is, whole, small, c.loop-i.invariant.0)
     ] in
     let now = subst (λ (z : ℤ). flipped c.args.flip (totals_value (take i ts)) ≡ z *ℤ pos (2 ^ (32 * i)) +ℤ pos (limbs_value (take i s))) c.loop-i.carry-is c.loop-i.invariant.1 in
     let bound : nat_abs q ≤ 4194304 =
     elim c.if-flip.branch [
-      | then_flip w ↦ omega (arith, ints, w.t-is, whole, small, c.loop-i.invariant.0)
+      | then-flip w ↦ omega (arith, ints, w.t-is, whole, small, c.loop-i.invariant.0)
       | else-flip w ↦ omega (arith, ints, w.t-is, whole, small, c.loop-i.invariant.0)
     ] in (
       subst (λ (z : ℤ). nat_abs z ≤ 4194304) (sym (to_z-of_z w64 q fits)) bound,

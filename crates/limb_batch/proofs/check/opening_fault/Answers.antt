@@ -8,7 +8,7 @@ pub returns-in-Some : goal.returns-in-Some
 returns-in-Some c = first_here _ _ _ _ c.loop-i-test.true c.loop-i.invariant _ (search rules) c.in-Some.ensures
 
 pub loop-i-preserved : goal.loop-i-preserved
-loop-i-preserved c = first_further _ _ _ _ c.loop-i-test.true c.loop-i.invariant c.in-default.ensures
+loop-i-preserved c = first_further _ _ _ _ c.loop-i-test.true c.loop-i.invariant c.in_default.ensures
 
 pub returns : goal.returns
 returns c = search (rules, drop_all)

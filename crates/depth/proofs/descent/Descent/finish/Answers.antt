@@ -38,14 +38,14 @@ round_ends-ends-requires g c =
 pub unwrap-next-requires : goal.unwrap-next-requires
 unwrap-next-requires g c =
     let s = c.loop-end.self in
-    undecided_some (g.G.Grid.spacing c.args.grid.now) (mode_of c.args.mode) s.sum s.reaching c.next_column-below.result c.in-default.ensures
+    undecided_some (g.G.Grid.spacing c.args.grid.now) (mode_of c.args.mode) s.sum s.reaching c.next_column-below.result c.in_default.ensures
 
 pub go_on-requires : goal.go_on-requires
 go_on-requires g c =
     let b = c.args.batch.now in
     record {
       absorbs = turn.absorbs (g.B.Batch.terms b) (g.B.Batch.limited b).each_limited c.args.terms.now (g.G.Grid.spacing c.args.grid.now) (mode_of c.args.mode) c.requires.regular
-          c.loop-end.self c.loop-end.invariant c.next_column-below.result c.next_column-below.ensures.next c.next_column-below.ensures.highest c.in-default.ensures
+          c.loop-end.self c.loop-end.invariant c.next_column-below.result c.next_column-below.ensures.next c.next_column-below.ensures.highest c.in_default.ensures
           c.unwrap-next.result c.unwrap-next.ensures c.column_work-total.result.0 c.column_work-total.ensures.small;
       few = turn.depth_in (g.B.Batch.terms b) (g.B.Batch.limited b).each_limited c.args.terms.now (g.G.Grid.spacing c.args.grid.now) (mode_of c.args.mode) c.requires.regular
           c.loop-end.self c.loop-end.invariant;
@@ -55,13 +55,13 @@ pub loop-end-smaller : goal.loop-end-smaller
 loop-end-smaller g c =
     let b = c.args.batch.now in
     turn.less_left (g.B.Batch.terms b) (g.B.Batch.limited b).each_limited c.args.terms.now (g.G.Grid.spacing c.args.grid.now) (mode_of c.args.mode) c.requires.regular
-    c.loop-end.self c.loop-end.invariant c.next_column-below.result c.next_column-below.ensures.next c.next_column-below.ensures.highest c.in-default.ensures
+    c.loop-end.self c.loop-end.invariant c.next_column-below.result c.next_column-below.ensures.next c.next_column-below.ensures.highest c.in_default.ensures
     c.unwrap-next.result c.unwrap-next.ensures c.go_on.new.self c.go_on.ensures.at
 
 pub loop-end-preserved : goal.loop-end-preserved
 loop-end-preserved g c =
     let b = c.args.batch.now in
     turn.goes_on (g.B.Batch.terms b) (g.B.Batch.limited b).each_limited c.args.terms.now (g.G.Grid.spacing c.args.grid.now) (mode_of c.args.mode) c.requires.regular
-    c.loop-end.self c.loop-end.invariant c.next_column-below.result c.next_column-below.ensures.next c.next_column-below.ensures.highest c.in-default.ensures
+    c.loop-end.self c.loop-end.invariant c.next_column-below.result c.next_column-below.ensures.next c.next_column-below.ensures.highest c.in_default.ensures
     c.unwrap-next.result c.unwrap-next.ensures c.column_work-total.result.0 c.column_work-total.result.1 c.go_on.new.self c.column_work-total.ensures.small
     c.column_work-total.ensures.goes_on c.column_work-total.ensures.below c.go_on.ensures

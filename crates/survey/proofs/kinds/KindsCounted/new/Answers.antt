@@ -9,7 +9,7 @@ use Rattle.survey.proofs.Surveying.{has_more}
 use Rattle.survey.proofs.kinds.KindsCounted.new.Goals as goal
 
 pub loop-place-init : goal.loop-place-init
-loop-place-init g c = (
+loop-place-init g c =
   λ k. elim k as (λ (j : Kind). get_or (false ∷ false ∷ false ∷ false ∷ false ∷ false ∷ false ∷ false ∷ []) (kind_number j) false ≡ false) [
     | NotANumber ↦ refl
     | PositiveInfinity ↦ refl
@@ -19,12 +19,7 @@ loop-place-init g c = (
     | Positive ↦ refl
     | Negative ↦ refl
     | Absent ↦ refl
-  ],
-  refl,
-)
-
-pub invariant_of-kinds : goal.invariant_of-kinds
-invariant_of-kinds g c = (c.loop-place.invariant.1, tt)
+  ]
 
 pub loop-place-preserved : goal.loop-place-preserved
 loop-place-preserved g c =
@@ -32,19 +27,14 @@ loop-place-preserved g c =
     let marks = shown c.args.marks.now in
     let i = c.loop-place.place in
     let kind : c.counted_kind-kind.result ≡ counted_kind (marks i) (get_or ks i Absent) = c.counted_kind-kind.ensures ∙ ap₂ counted_kind c.at.ensures c.kind.ensures in
-    let within : c.loop-place.place < length (map kind_of (g.B.Batch.terms c.args.batch.now)) = omega (arith, length-map (g.B.Batch.terms c.args.batch.now) kind_of) in (
+    let within : c.loop-place.place < length (map kind_of (g.B.Batch.terms c.args.batch.now)) = omega (arith, length-map (g.B.Batch.terms c.args.batch.now) kind_of) in
       λ k.
           c.add.ensures k
-          ∙ ap₂ (λ (j : Kind) b. cond (eqb (kind_number j) (kind_number k)) true b) kind (c.loop-place.invariant.0 k)
-          ∙ sym (has_more marks ks i within k),
-      c.add.new.self.whole,
-    )
-
-pub invariant_of-kinds-2 : goal.invariant_of-kinds-2
-invariant_of-kinds-2 g c = (c.loop-place.invariant.1, tt)
+          ∙ ap₂ (λ (j : Kind) b. cond (eqb (kind_number j) (kind_number k)) true b) kind (c.loop-place.invariant k)
+          ∙ sym (has_more marks ks i within k)
 
 pub returns : goal.returns
 returns g c = λ k.
     let ks = map kind_of (g.B.Batch.terms c.args.batch.now) in
     let all : length (map kind_of (g.B.Batch.terms c.args.batch.now)) ≤ c.loop-place.place = omega (arith, length-map (g.B.Batch.terms c.args.batch.now) kind_of) in
-    c.loop-place.invariant.0 k ∙ ap (λ (l : List Kind). has (kinds_from (shown c.args.marks.now) 0 l) k) (take_all c.loop-place.place ks all)
+    c.loop-place.invariant k ∙ ap (λ (l : List Kind). has (kinds_from (shown c.args.marks.now) 0 l) k) (take_all c.loop-place.place ks all)
