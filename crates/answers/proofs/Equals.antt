@@ -6,7 +6,7 @@ use Rattle.exact.specs.Dyadic.{Dyadic, dyadic, at, ◌≤ᴰ◌, ◌<ᴰ◌, ◌
 use Rattle.exact.proofs.Scaling.{below_three}
 use Rattle.exact.proofs.Order.{at_le, le_at, at_lt, lt_at, at_same, same_at, ≈ᴰ_trans}
 use Rattle.exact.proofs.Sums.{at_distance}
-use Rattle.grid.specs.Rounding.{Mode, nearest, downward, upward, toward_zero, away-from-zero, OnGrid}
+use Rattle.grid.specs.Rounding.{Mode, nearest, downward, upward, toward_zero, away_from_zero, OnGrid}
 use Rattle.grid.specs.Neighbours.{Lower, Upper, Nearest, Wanted}
 use Rattle.grid.specs.Claims.{Toward}
 use Rattle.grid.proofs.Members.{on_grid_≈}
@@ -69,7 +69,7 @@ module _ (u : ℤ → ℤ) (x v w : Dyadic) (e : v ≈ᴰ w) where
   wanted_≈ downward h = lower_≈ h
   wanted_≈ upward h = upper_≈ h
   wanted_≈ toward_zero h = (λ s. lower_≈ (h.0 s), λ s. upper_≈ (h.1 s))
-  wanted_≈ away-from-zero h = (λ s. upper_≈ (h.0 s), λ s. lower_≈ (h.1 s))
+  wanted_≈ away_from_zero h = (λ s. upper_≈ (h.0 s), λ s. lower_≈ (h.1 s))
 
   pub toward_≈ : (d : ℤ) → Toward d v x → Toward d w x
   toward_≈ d t = record {
@@ -91,7 +91,7 @@ wanted_on u toward_zero x v h = by_sign (is_negative x.count) h.0 h.1
     by_sign : (b : Bool) → (b ≡ false → Lower u x v) → (b ≡ true → Upper u x v) → OnGrid u v
     by_sign false l r = (l refl).on
     by_sign true l r = (r refl).on
-wanted_on u away-from-zero x v h = by_sign (is_negative x.count) h.0 h.1
+wanted_on u away_from_zero x v h = by_sign (is_negative x.count) h.0 h.1
   where
     by_sign : (b : Bool) → (b ≡ false → Upper u x v) → (b ≡ true → Lower u x v) → OnGrid u v
     by_sign false l r = (l refl).on

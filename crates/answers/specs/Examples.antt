@@ -2,7 +2,7 @@
 use Rattle.std.specs.Prelude.{◌≡◌, ℕ, Bool, true, false, List, [], ◌∷◌, ℤ, pos, neg_ℤ, slice_index_or}
 use Rattle.std.specs.List.{AllByRecursion as All}
 use Rattle.grid.specs.Spacing.{free, floored}
-use Rattle.grid.specs.Rounding.{Mode, nearest, downward, upward, toward_zero, away-from-zero}
+use Rattle.grid.specs.Rounding.{Mode, nearest, downward, upward, toward_zero, away_from_zero}
 use Rattle.batch.specs.Term.{Term, infinite, signed_zero, regular}
 use Rattle.batch.specs.declared.kind.Kind.TheVariants.{NotANumber, PositiveZero, NegativeZero, Positive, Negative}
 use Rattle.batch.specs.TermKinds.{kind_number}
@@ -57,7 +57,7 @@ nothing m = entry all_in [] (free 1) m (special PositiveZero (pos 0) 0)
 
 abbrev pub entries : List Entry
 entries =
-    nothing nearest ∷ nothing downward ∷ nothing upward ∷ nothing toward_zero ∷ nothing away-from-zero
+    nothing nearest ∷ nothing downward ∷ nothing upward ∷ nothing toward_zero ∷ nothing away_from_zero
     -- zeros
     ∷ entry all_in (signed_zero true ∷ []) (free 1) nearest (special NegativeZero (pos 0) 0)
     ∷ entry all_in (signed_zero false ∷ signed_zero true ∷ []) (free 1) downward (special NegativeZero (pos 0) 0)

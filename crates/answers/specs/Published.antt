@@ -2,7 +2,7 @@
 use Rattle.std.specs.Prelude.{ℕ, zero, suc, ◌*◌, ◌/◌, ◌%◌, ◌^◌, Bool, true, false, cond, List, [], ◌∷◌, ℤ, pos, ◌-ℤ◌, ◌==◌, unsigned_abs}
 use Rattle.exact.specs.Integers.{is_negative, gap}
 use Rattle.exact.specs.Dyadic.{Dyadic, exponent}
-use Rattle.grid.specs.Rounding.{Mode, nearest, downward, upward, toward_zero, away-from-zero, Answer, rounded}
+use Rattle.grid.specs.Rounding.{Mode, nearest, downward, upward, toward_zero, away_from_zero, Answer, rounded}
 use Rattle.limbs.specs.Bits.{limbs_for}
 use Rattle.batch.specs.Term.{Term, whole_units}
 use Rattle.batch.specs.TermKinds.{kind_number}
@@ -73,7 +73,7 @@ is_downward nearest = false
 is_downward downward = true
 is_downward upward = false
 is_downward toward_zero = false
-is_downward away-from-zero = false
+is_downward away_from_zero = false
 
 -- the exact sum of the parts, rounded once; an exact 0 has the given sign
 abbrev pub sum_answer : Bool → (ℤ → ℤ) → Mode → List Part → ℕ → Published

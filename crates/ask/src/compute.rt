@@ -111,20 +111,25 @@ fn rounded_answer(
 
 // The answer where only finite terms count.
 fn finite_answer<B: Batch, G: Grid>(
-    zero_negative: bool,
+    exact_zero_negative: bool,
     marks: &Marks,
     batch: &B,
     grid: &G,
     mode: Mode,
     limbs: &mut [u32],
 ) -> Answer
-    requires { zero_negative ≡ zero_negative (is_downward (mode_of mode)) (has (counted_kinds (shown marks.now) (B.Batch.terms batch.now))) }
+    requires { exact_zero_negative ≡ zero_negative (is_downward (mode_of mode)) (has (counted_kinds (shown marks.now) (B.Batch.terms batch.now))) }
     ensures { published result limbs.new ≡ finite_answer (shown marks.now) (B.Batch.terms batch.now) (G.Grid.spacing grid.now) (mode_of mode) (length limbs.old) }
 {
     let mut sum = [0u32; 128];
     match round_sum(batch, marks, grid, mode, &mut sum) {
-        Some(rounded) => rounded_answer(rounded, zero_negative, &sum, limbs),
-        None => plain_answer(zero_of_sign(zero_negative), Direction::Exact, 0, limbs),
+        Some(rounded) => rounded_answer(rounded, exact_zero_negative, &sum, limbs),
+        None => plain_answer(
+            zero_of_sign(exact_zero_negative),
+            Direction::Exact,
+            0,
+            limbs,
+        ),
     }
 }
 

@@ -4,7 +4,7 @@ use Rattle.batch.specs.Term.{Term}
 use Rattle.sheet.specs.Model.{Call, marking, undoing, setting, reopening, asking}
 use Rattle.sheet.specs.Numbers.{Refusal, refused_by, fault_refusal}
 use Rattle.answers.specs.Asked.{Question, question, Reply, done, refused, answered}
-use Rattle.ask.specs.Told.{published, fault_refusal as ask-refusal}
+use Rattle.ask.specs.Told.{published, fault_refusal as ask_refusal}
 use Rattle.ask_history.specs.declared.call.Asking.{Asking}
 use Rattle.ask_history.specs.declared.call.SheetCall.{SheetCall}
 use Rattle.ask_history.specs.declared.call.SheetCall.TheVariants.{Mark, Undo, Set, Reopen, Ask}
@@ -27,7 +27,7 @@ call_of spacing widest batches (Ask a) = asking (question_of spacing widest (sli
 
 abbrev pub call_fault_refusal : CallFault → Refusal
 call_fault_refusal (Sheet f) = fault_refusal f
-call_fault_refusal (AskFaulted f) = ask-refusal f
+call_fault_refusal (AskFaulted f) = ask_refusal f
 call_fault_refusal OutOfTurn = refused_by 20
 
 -- what an outcome tells

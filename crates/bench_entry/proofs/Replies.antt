@@ -4,7 +4,7 @@ use mathlib.Core.Path.{fun_ext}
 use Rattle.batch.specs.Term.{Term}
 use Rattle.batch.specs.Faults.{fault_number, fault_place}
 use Rattle.batch.specs.declared.fault.BatchFault.{BatchFault}
-use Rattle.grid.specs.Faults.{width_refusal, fault_number as grid-fault-number}
+use Rattle.grid.specs.Faults.{width_refusal, fault_number as grid_fault_number}
 use Rattle.grid.specs.declared.fault.GridFault.{GridFault}
 use Rattle.limb_batch.specs.Records.{record_terms}
 use Rattle.limb_batch.specs.Opening.{opening_fault}
@@ -30,7 +30,7 @@ module _ (rs : List LimbRecord) (pool : List ℕ) (width mode room : ℕ) where
   unfolding benched
   batch_taken e = ap (λ (o : Option BatchFault). after_batch o (after_grid (width_refusal width) (asked_of_all (record_terms pool rs) width mode room))) e
 
-  pub grid_refused : (f : GridFault) → opening_fault pool rs ≡ None → width_refusal width ≡ Some f → benched rs pool width mode room ≡ refused (refused_by (grid-fault-number f))
+  pub grid_refused : (f : GridFault) → opening_fault pool rs ≡ None → width_refusal width ≡ Some f → benched rs pool width mode room ≡ refused (refused_by (grid_fault_number f))
   grid_refused f d e = batch_taken d ∙ ap (λ (o : Option GridFault). after_grid o (asked_of_all (record_terms pool rs) width mode room)) e
 
   -- with the terms and the width as the code has them

@@ -4,7 +4,7 @@ use Rattle.batch.specs.Term.{Term}
 use Rattle.batch.specs.Faults.{fault_number, fault_place}
 use Rattle.batch.specs.declared.fault.BatchFault.{BatchFault}
 use Rattle.grid.specs.Spacing.{free}
-use Rattle.grid.specs.Faults.{width_refusal, fault_number as grid-fault-number}
+use Rattle.grid.specs.Faults.{width_refusal, fault_number as grid_fault_number}
 use Rattle.grid.specs.declared.fault.GridFault.{GridFault}
 use Rattle.limb_batch.specs.Records.{record_terms}
 use Rattle.limb_batch.specs.Opening.{opening_fault}
@@ -20,7 +20,7 @@ after_batch None rest = rest
 
 -- so of the grid
 abbrev pub after_grid : Option GridFault → Reply → Reply
-after_grid (Some f) rest = refused (refused_by (grid-fault-number f))
+after_grid (Some f) rest = refused (refused_by (grid_fault_number f))
 after_grid None rest = rest
 
 -- what the ask of all terms gets on the free grid of this width, in the mode of this number, with so many limbs

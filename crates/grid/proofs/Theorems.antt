@@ -3,7 +3,7 @@ use Rattle.std.proofs.Common.{◌≡◌, ℕ, true, false, ℤ, subst}
 use Rattle.exact.specs.Integers.{is_negative}
 use Rattle.exact.specs.Dyadic.{Dyadic}
 use Rattle.grid.specs.Spacing.{Lawful}
-use Rattle.grid.specs.Rounding.{Mode, nearest, downward, upward, toward_zero, away-from-zero, rounded}
+use Rattle.grid.specs.Rounding.{Mode, nearest, downward, upward, toward_zero, away_from_zero, rounded}
 use Rattle.grid.specs.Neighbours.{Lower, Upper, Wanted}
 use Rattle.grid.specs.Claims as Claims
 use Rattle.grid.proofs.Everywhere.{LawsEverywhere, laws_everywhere}
@@ -23,11 +23,11 @@ up_toward : (u : ℤ → ℤ) (x : Dyadic) → is_negative x.count ≡ true → 
 unfolding rounded
 up_toward u x e = simp e
 
-up_away : (u : ℤ → ℤ) (x : Dyadic) → is_negative x.count ≡ false → (rounded u upward x).value ≡ (rounded u away-from-zero x).value
+up_away : (u : ℤ → ℤ) (x : Dyadic) → is_negative x.count ≡ false → (rounded u upward x).value ≡ (rounded u away_from_zero x).value
 unfolding rounded
 up_away u x e = simp e
 
-down_away : (u : ℤ → ℤ) (x : Dyadic) → is_negative x.count ≡ true → (rounded u downward x).value ≡ (rounded u away-from-zero x).value
+down_away : (u : ℤ → ℤ) (x : Dyadic) → is_negative x.count ≡ true → (rounded u downward x).value ≡ (rounded u away_from_zero x).value
 unfolding rounded
 down_away u x e = simp e
 
@@ -36,7 +36,7 @@ wanted u S nearest x = nearest_of u S x
 wanted u S downward x = lower u S x
 wanted u S upward x = upper u S x
 wanted u S toward_zero x = (λ e. subst (Lower u x) (down_toward u x e) (lower u S x), λ e. subst (Upper u x) (up_toward u x e) (upper u S x))
-wanted u S away-from-zero x = (λ e. subst (Upper u x) (up_away u x e) (upper u S x), λ e. subst (Lower u x) (down_away u x e) (lower u S x))
+wanted u S away_from_zero x = (λ e. subst (Upper u x) (up_away u x e) (upper u S x), λ e. subst (Lower u x) (down_away u x e) (lower u S x))
 
 module _ (u : ℤ → ℤ) (W : ℕ) (L : Lawful u W) where
   pub neighbours : Claims.Neighbours u

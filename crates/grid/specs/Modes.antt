@@ -9,4 +9,4 @@ mode_of Nearest = Rounding.nearest
 mode_of Downward = Rounding.downward
 mode_of Upward = Rounding.upward
 mode_of TowardZero = Rounding.toward_zero
-mode_of AwayFromZero = Rounding.away-from-zero
+mode_of AwayFromZero = Rounding.away_from_zero

@@ -2,7 +2,7 @@
 use Rattle.std.specs.Prelude.{◌≡◌, true, false, ℤ, ◌+ℤ◌}
 use Rattle.exact.specs.Integers.{is_negative}
 use Rattle.exact.specs.Dyadic.{Dyadic, dyadic, ◌≤ᴰ◌, ◌≈ᴰ◌, distance, exponent}
-use Rattle.grid.specs.Rounding.{Mode, nearest, downward, upward, toward_zero, away-from-zero, OnGrid}
+use Rattle.grid.specs.Rounding.{Mode, nearest, downward, upward, toward_zero, away_from_zero, OnGrid}
 
 -- v is the greatest number of the grid that is at most x
 pub record Lower (u : ℤ → ℤ) (x v : Dyadic) : Type 0 where
@@ -28,4 +28,4 @@ Wanted u nearest x v = Nearest u x v
 Wanted u downward x v = Lower u x v
 Wanted u upward x v = Upper u x v
 Wanted u toward_zero x v = (is_negative x.count ≡ false → Lower u x v) × (is_negative x.count ≡ true → Upper u x v)
-Wanted u away-from-zero x v = (is_negative x.count ≡ false → Upper u x v) × (is_negative x.count ≡ true → Lower u x v)
+Wanted u away_from_zero x v = (is_negative x.count ≡ false → Upper u x v) × (is_negative x.count ≡ true → Lower u x v)

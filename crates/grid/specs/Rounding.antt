@@ -8,11 +8,11 @@ use Rattle.exact.specs.Dyadic.{Dyadic, dyadic, exponent, ◌≈ᴰ◌}
 
 -- to the nearest, a tie to the even multiple; down; up; toward 0; away from 0
 pub data Mode : Type 0 where
-  nearest downward upward toward_zero away-from-zero : Mode
+  nearest downward upward toward_zero away_from_zero : Mode
 
 -- the modes by number, from 0
 abbrev pub mode_numbered : ℕ → Option Mode
-mode_numbered n = slice_get (nearest ∷ downward ∷ upward ∷ toward_zero ∷ away-from-zero ∷ []) n
+mode_numbered n = slice_get (nearest ∷ downward ∷ upward ∷ toward_zero ∷ away_from_zero ∷ []) n
 
 -- how a magnitude is rounded
 pub data Way : Type 0 where
@@ -26,7 +26,7 @@ way_of downward true = away
 way_of upward false = away
 way_of upward true = cut
 way_of toward_zero s = cut
-way_of away-from-zero s = away
+way_of away_from_zero s = away
 
 -- n / d as a whole number (`closest` takes a tie to the even one)
 abbrev pub whole : Way → ℕ → ℕ → ℕ

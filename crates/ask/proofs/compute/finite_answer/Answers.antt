@@ -24,5 +24,5 @@ returns-in-None g c =
     let n = length c.args.limbs.now in
     c.plain_answer.ensures
     ∙ ap (λ (k : Kind). plain k (pos 0) 0 n) c.zero_of_sign.ensures
-    ∙ answer_of_none c.args.zero_negative u m ps n c.in-None.ensures
+    ∙ answer_of_none c.args.exact_zero_negative u m ps n c.in-None.ensures
     ∙ ap (λ (b : Bool). sum_answer b u m ps n) c.requires
