@@ -26,6 +26,9 @@ OTHERWISE = {
     "is-nan": "is_nan_lem",
 }
 
+# Names that are declared otherwise than by a line of their own: a constructor, and two names that imports give.
+ALSO = {"away-from-zero", "ask-refusal", "grid-fault-number"}
+
 
 def files(endings):
     for root, folders, names in os.walk("crates"):
@@ -88,7 +91,7 @@ def rewrite(path, renamed):
 
 
 def main():
-    renamed = {name: spelled(name) for name in declared()}
+    renamed = {name: spelled(name) for name in declared() | ALSO}
     all_files = list(files((".antt", ".rt")))
     present = set()
     for path in all_files:

@@ -1,5 +1,5 @@
 -- Two answers, one downward and one upward, enclose the exact sum.
-use Rattle.std.proofs.Common.{◌≡◌, ℕ, ◌≤◌, List, ℤ, pos, Some, None, Option, sym, refl, ap, ◌∙◌, subst}
+use Rattle.std.proofs.Common.{◌≡◌, ℕ, ◌≤◌, List, ℤ, Some, sym, refl, ap, ◌∙◌, subst}
 use mathlib.Core.Path.{fun_ext}
 use Rattle.exact.specs.Dyadic.{Dyadic, ◌≈ᴰ◌}
 use Rattle.exact.proofs.Order.{≈ᴰ_trans}
@@ -16,11 +16,11 @@ use Rattle.column.specs.Parts.{exact_sum}
 use Rattle.column.specs.PartsOf.{parts_of}
 use Rattle.column.specs.Depth.{depth}
 use Rattle.answers.specs.Published.{Published, answer}
-use Rattle.answers.specs.Asked.{Question, answered, asked}
+use Rattle.answers.specs.Asked.{Question}
 use Rattle.answers.specs.Laws.{answer_value, sum_asked, Proper, Twins, AnswersEnclose}
 use Rattle.answers.proofs.Equals.{lt_left, lt_right, lower_≈, upper_≈}
 use Rattle.answers.proofs.Made.{Made, answer_made}
-use Rattle.answers.proofs.Asked.{Answered, when_answered}
+use Rattle.answers.proofs.Asked.{when_answered}
 
 -- what encloses a number still does if equal numbers stand for the two sides
 enclosed_≈ : (u : ℤ → ℤ) (x lo hi v w : Dyadic) → lo ≈ᴰ v → hi ≈ᴰ w → Enclosed u x lo hi → Enclosed u x v w

@@ -1,5 +1,5 @@
 -- Equal numbers stand in the same order and at the same distance from others, and are neighbours of the same numbers.
-use Rattle.std.proofs.Common.{◌≡◌, ℕ, Bool, true, false, ◌⊎◌, ℤ, pos, ◌-ℤ◌, nat_abs, ◌≤ℤ◌, ◌<ℤ◌, sym, refl, ap, ◌∙◌, inl, inr, arith}
+use Rattle.std.proofs.Common.{◌≡◌, Bool, true, false, ℤ, pos, ◌-ℤ◌, nat_abs, sym, refl, ap, ◌∙◌, arith}
 use borrow.Author.Differences.{ints}
 use Rattle.exact.specs.Integers.{is_negative}
 use Rattle.exact.specs.Dyadic.{Dyadic, dyadic, at, ◌≤ᴰ◌, ◌<ᴰ◌, ◌≈ᴰ◌, distance, exponent}

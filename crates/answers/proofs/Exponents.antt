@@ -1,16 +1,16 @@
 -- The exponent of what a sum is rounded to lies in the range of the grids' laws, so that it has no more bits than the grid is wide.
-use Rattle.std.proofs.Common.{◌≡◌, ℕ, suc, ◌+◌, ◌-◌, ◌*◌, ◌^◌, ◌<◌, ◌≤◌, max, Bool, true, false, ℤ, pos, ◌+ℤ◌, ◌-ℤ◌, neg_ℤ, nat_abs, ◌≤ℤ◌, ◌<ℤ◌, sym, refl, ap, ◌∙◌, subst, arith, pow_pos, pow_mono}
+use Rattle.std.proofs.Common.{◌≡◌, ℕ, suc, ◌*◌, ◌^◌, ◌<◌, ◌≤◌, max, ℤ, pos, ◌+ℤ◌, ◌-ℤ◌, neg_ℤ, nat_abs, ◌≤ℤ◌, sym, subst, arith, pow_mono}
 use native.Mathlib.Nat.{pow-succ'}
 use lib.Ieee.{size}
 use lib.Ieee.Digits.{size-lt, size-le}
 use borrow.Author.Differences.{ints}
 use Rattle.exact.specs.Integers.{is_negative, signed, gap, lesser}
-use Rattle.exact.specs.Dyadic.{Dyadic, dyadic, at, ◌<ᴰ◌, ◌≈ᴰ◌, Nonzero, distance, exponent}
+use Rattle.exact.specs.Dyadic.{Dyadic, dyadic, at, Nonzero, distance, exponent}
 use Rattle.exact.proofs.Scaling.{lesser_low}
 use Rattle.exact.proofs.Order.{at_lt}
 use Rattle.exact.proofs.Sums.{at_distance}
 use Rattle.exact.proofs.Exponents.{exponent_at, exponent_≈, at_power}
-use Rattle.grid.specs.Spacing.{InRange, Lawful, lowest, highest}
+use Rattle.grid.specs.Spacing.{InRange, Lawful, highest}
 use Rattle.grid.specs.Rounding.{Mode, whole, way_of, dropped, rounded}
 use Rattle.grid.proofs.Dyadics.{weight_rounded}
 use Rattle.grid.proofs.Outcomes.{value_in_steps}

@@ -1,8 +1,8 @@
 -- Every answer lies where it should, and has the depth that it should.
-use Rattle.std.proofs.Common.{◌≡◌, ℕ, ◌≤◌, Bool, true, false, ◌⊎◌, List, [], ◌∷◌, length, ℤ, pos, nat_abs, Some, None, Option, sym, refl, ap, ◌∙◌, subst, inl, inr, arith}
+use Rattle.std.proofs.Common.{◌≡◌, ℕ, Bool, true, false, ◌⊎◌, List, [], ◌∷◌, ℤ, pos, sym, refl, ◌∙◌, subst, inl, inr, arith}
 use borrow.Author.Differences.{ints}
-use Rattle.exact.specs.Dyadic.{Dyadic, ◌≤ᴰ◌, ◌<ᴰ◌, ◌≈ᴰ◌, Nonzero, distance}
-use Rattle.exact.proofs.Order.{<ᴰ_not_≥, ≈ᴰ_trans}
+use Rattle.exact.specs.Dyadic.{Dyadic, ◌≤ᴰ◌, ◌<ᴰ◌, ◌≈ᴰ◌, distance}
+use Rattle.exact.proofs.Order.{<ᴰ_not_≥}
 use Rattle.grid.specs.Spacing.{Lawful}
 use Rattle.grid.specs.Rounding.{Mode, nearest, rounded, OnGrid}
 use Rattle.grid.specs.Claims.{Toward}
@@ -15,13 +15,11 @@ use Rattle.column.specs.Columns.{columns}
 use Rattle.column.specs.Depth.{depth}
 use Rattle.column.proofs.Counting.{parts_regular}
 use Rattle.column.proofs.Depths.{depth_exists, depth_of_none}
-use Rattle.sheet.specs.declared.mark.Mark.{Mark}
 use Rattle.answers.specs.Published.{Published, is_zero, answer}
-use Rattle.answers.specs.Asked.{Question, Reply, answered, asked}
-use Rattle.answers.specs.Laws.{answer_value, sum_asked, one_spacing, half_spacing, Near, Deep, RightAnswer, Proper, AnswersRight}
+use Rattle.answers.specs.Laws.{answer_value, sum_asked, one_spacing, half_spacing, Near, Deep, AnswersRight}
 use Rattle.answers.proofs.Equals.{le_left, le_right, lt_left, distance_≈, wanted_≈, wanted_on, toward_≈}
 use Rattle.answers.proofs.Made.{Made, answer_made, zero_count, nonzero_count}
-use Rattle.answers.proofs.Asked.{Answered, when_answered}
+use Rattle.answers.proofs.Asked.{when_answered}
 
 -- ---- distance
 module _ (u : ℤ → ℤ) (W : ℕ) (L : Lawful u W) (m : Mode) (x v : Dyadic) (e : v ≈ᴰ (rounded u m x).value) where

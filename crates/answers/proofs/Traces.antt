@@ -2,8 +2,8 @@
 use Rattle.std.proofs.Common.{◌≡◌, ℕ, Bool, true, false, cond, ◌⊎◌, List, [], ◌∷◌, ◌++◌, sym, refl, ap, ◌∙◌, subst, inl, inr, ⊎_elim, arith}
 use mathlib.Core.Path.{fun_ext}
 use Rattle.sheet.specs.Numbers.{Refusal, refused_by}
-use Rattle.sheet.specs.Model.{Call, asking, History, mark_after}
-use Rattle.sheet.specs.Turns.{fits, open_after, fitting}
+use Rattle.sheet.specs.Model.{asking}
+use Rattle.sheet.specs.Turns.{fits, open_after}
 use Rattle.sheet.specs.declared.mark.Mark.{Mark}
 use Rattle.answers.specs.Published.{Published}
 use Rattle.answers.specs.Asked.{Question, Reply, refused, answered, asked}

@@ -1,11 +1,11 @@
 -- The number that a regular answer is: the grid number from which it is made.
-use Rattle.std.proofs.Common.{◌≡◌, ℕ, zero, suc, ◌+◌, ◌-◌, ◌*◌, ◌/◌, ◌^◌, ◌<◌, ◌≤◌, Bool, true, false, eqb, ◌⊎◌, ℤ, pos, ◌+ℤ◌, ◌-ℤ◌, nat_abs, ◌≤ℤ◌, sym, refl, ap, ◌∙◌, subst, inl, inr, lt_of_lt_of_le, arith, pow_pos, pow_mono, shl_lt}
+use Rattle.std.proofs.Common.{◌≡◌, ℕ, ◌+◌, ◌-◌, ◌*◌, ◌/◌, ◌^◌, ◌<◌, ◌≤◌, Bool, true, false, eqb, ℤ, pos, ◌+ℤ◌, ◌-ℤ◌, nat_abs, sym, refl, ap, ◌∙◌, subst, lt_of_lt_of_le, arith, pow_pos, pow_mono, shl_lt}
 use native.Mathlib.Nat.{mul-div_left}
 use lib.Ieee.{size}
 use lib.Ieee.Digits.{size-lt}
 use borrow.Author.Differences.{ints}
-use Rattle.exact.specs.Integers.{is_negative, signed, gap, scale}
-use Rattle.exact.specs.Dyadic.{Dyadic, dyadic, at, ◌≈ᴰ◌, Nonzero, exponent}
+use Rattle.exact.specs.Integers.{is_negative, signed, gap}
+use Rattle.exact.specs.Dyadic.{Dyadic, dyadic, ◌≈ᴰ◌, Nonzero, exponent}
 use Rattle.exact.specs.Limbs.{limbs_value}
 use Rattle.exact.proofs.Integers.{signed_abs}
 use Rattle.exact.proofs.Signed.{abs_signed}
@@ -13,11 +13,10 @@ use Rattle.exact.proofs.Scaling.{scale_abs, negative_scale}
 use Rattle.exact.proofs.Exponents.{exponent_≈}
 use Rattle.exact.proofs.Order.{≈ᴰ_trans}
 use Rattle.exact.proofs.Units.{other_units}
-use Rattle.grid.specs.Rounding.{OnGrid}
 use Rattle.limbs.specs.Bits.{limbs_for}
 use Rattle.batch.specs.Term.{whole_units}
 use Rattle.batch.specs.TermKinds.{kind_number}
-use Rattle.answers.specs.Published.{Published, number_of_sign, regular_answer, limbs_of}
+use Rattle.answers.specs.Published.{number_of_sign, regular_answer, limbs_of}
 use Rattle.answers.specs.Laws.{answer_value}
 use Rattle.answers.proofs.LimbLists.{value_of_limbs}
 

@@ -1,5 +1,5 @@
 -- Worked entries, which the checker computes from the definitions.
-use Rattle.std.specs.Prelude.{◌≡◌, ℕ, Bool, true, false, List, [], ◌∷◌, ℤ, pos, neg_ℤ, slice_index_or}
+use Rattle.std.specs.Prelude.{◌≡◌, ℕ, true, false, List, [], ◌∷◌, ℤ, pos, neg_ℤ, slice_index_or}
 use Rattle.std.specs.List.{AllByRecursion as All}
 use Rattle.grid.specs.Spacing.{free, floored}
 use Rattle.grid.specs.Rounding.{Mode, nearest, downward, upward, toward_zero, away_from_zero}

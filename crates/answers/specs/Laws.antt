@@ -1,5 +1,5 @@
 -- The laws of an answer, in the words of whoever reads it: how far it lies from the exact sum and on which side, what two answers enclose, and what its depth is.
-use Rattle.std.specs.Prelude.{◌≡◌, ℕ, ◌*◌, ◌≤◌, ◌⊎◌, List, [], length, ℤ, pos, ◌-ℤ◌, Some, Option, ◌==◌}
+use Rattle.std.specs.Prelude.{◌≡◌, ℕ, ◌*◌, ◌≤◌, ◌⊎◌, List, [], length, ℤ, pos, ◌-ℤ◌, Some, ◌==◌}
 use Rattle.exact.specs.Integers.{signed}
 use Rattle.exact.specs.Dyadic.{Dyadic, dyadic, ◌≤ᴰ◌, ◌<ᴰ◌, ◌≈ᴰ◌, distance, exponent}
 use Rattle.exact.specs.Limbs.{limbs_value}
@@ -8,17 +8,16 @@ use Rattle.grid.specs.Rounding.{Mode, nearest, mode_numbered, OnGrid}
 use Rattle.grid.specs.Neighbours.{Wanted}
 use Rattle.grid.specs.Claims.{Toward, Enclosed}
 use Rattle.limbs.specs.Bits.{limbs_for}
-use Rattle.batch.specs.Term.{Term, Batchable}
+use Rattle.batch.specs.Term.{Batchable}
 use Rattle.sheet.specs.declared.mark.Mark.{Mark}
 use Rattle.column.specs.Parts.{Part, exact_sum}
 use Rattle.column.specs.PartsOf.{parts_of}
 use Rattle.column.specs.Columns.{columns}
 use Rattle.column.specs.Depth.{AlikeAt}
 use Rattle.survey.specs.Kinds.{class_of_sum}
-use Rattle.survey.specs.declared.class.SumClass.{SumClass}
 use Rattle.survey.specs.declared.class.SumClass.TheVariants.{Number}
 use Rattle.answers.specs.Published.{Published}
-use Rattle.answers.specs.Asked.{Question, Reply, answered, asked}
+use Rattle.answers.specs.Asked.{Question, answered, asked}
 
 -- the number that an answer is: its limbs as a fraction, times 2 ^ exponent, with its sign; 0 if it is not regular
 abbrev pub answer_value : Published → Dyadic

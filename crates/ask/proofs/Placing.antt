@@ -4,7 +4,7 @@ use lib.Ieee.{size}
 use borrow.Author.Differences.{ints}
 use Rattle.std.proofs.lemmas.Bool.{cond-true, cond-false, eq-eqb, ne_eqb}
 use Rattle.exact.specs.Integers.{is_negative, signed, gap, scale}
-use Rattle.exact.specs.Dyadic.{Dyadic, dyadic, at, ◌≈ᴰ◌, Nonzero, exponent, total}
+use Rattle.exact.specs.Dyadic.{Dyadic, dyadic, ◌≈ᴰ◌, Nonzero, exponent, total}
 use Rattle.exact.proofs.Integers.{abs_none}
 use Rattle.exact.proofs.Signed.{abs_signed, negative_signed}
 use Rattle.exact.proofs.Scaling.{scale_inj, zero_scale, negative_scale, gap_add}

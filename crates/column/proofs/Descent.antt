@@ -1,5 +1,5 @@
 -- The next occupied column below a given one, and the first of all.
-use Rattle.std.proofs.Common.{◌≡◌, ℕ, ◌+◌, ◌-◌, ◌<◌, ◌≤◌, ◌⊎◌, List, [], ◌∷◌, length, get_or, drop, ℤ, pos, ◌-ℤ◌, ◌≤ℤ◌, ◌<ℤ◌, Some, None, Option, sym, refl, ap, ◌∙◌, subst, inl, inr, arith}
+use Rattle.std.proofs.Common.{◌≡◌, ℕ, ◌+◌, ◌<◌, ◌≤◌, ◌⊎◌, List, [], ◌∷◌, length, get_or, drop, ℤ, pos, ◌-ℤ◌, ◌≤ℤ◌, ◌<ℤ◌, Some, None, Option, sym, refl, ap, ◌∙◌, subst, inl, inr, arith}
 use lib.Signed.{lt_z}
 use borrow.Author.Differences.{ints}
 use Rattle.std.specs.Int.{int_max, int_min}
@@ -7,7 +7,7 @@ use Rattle.std.specs.List.{AllByRecursion as All}
 use Rattle.std.proofs.lemmas.List.{drop_more, drop_all}
 use Rattle.std.proofs.lemmas.Int.{by_lt_z, clamps}
 use Rattle.std.proofs.lemmas.Bool.{cond_both}
-use Rattle.column.specs.Parts.{Part, low, top}
+use Rattle.column.specs.Parts.{Part}
 use Rattle.column.specs.Columns.{Spans, Occupies, Occupied, column_of, columns, Falling, Listed}
 use Rattle.column.specs.Walk.{first_column, first_below, Highest, higher}
 use Rattle.column.proofs.Listing.{floor_is, columns_fall, columns_occupied, occupied_columns}

@@ -1,5 +1,5 @@
 -- The walk from the first column down to the depth.
-use Rattle.std.proofs.Common.{◌≡◌, ◌+◌, false, List, [], ◌∷◌, ◌++◌, ℤ, ◌<ℤ◌, Some, Option, sym, refl, ap, ◌∙◌, subst, ⊎_elim, arith}
+use Rattle.std.proofs.Common.{◌≡◌, false, List, [], ◌∷◌, ◌++◌, ℤ, ◌<ℤ◌, Some, Option, sym, refl, ap, ◌∙◌, subst, ⊎_elim, arith}
 use lib.Signed.{lt_z}
 use borrow.Author.Differences.{ints}
 use Rattle.std.specs.List.{AllByRecursion as All}
@@ -9,7 +9,7 @@ use Rattle.grid.specs.Rounding.{rounded, Answer, Alike}
 use Rattle.grid.proofs.Everywhere.{laws_everywhere}
 use Rattle.grid.proofs.Monotone.{between}
 use Rattle.column.specs.Parts.{Part, exact_sum}
-use Rattle.column.specs.Columns.{columns, Falling}
+use Rattle.column.specs.Columns.{Falling}
 use Rattle.column.specs.Ends.{lower_end, upper_end}
 use Rattle.column.specs.Depth.{ends_alike, depth, answer}
 use Rattle.column.specs.Walk.{first_column, first_below}

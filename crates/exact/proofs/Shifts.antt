@@ -1,11 +1,11 @@
 -- A natural number times one power of two, from another power of two on, and its lowest bits.
 use Rattle.std.proofs.Common.{◌≡◌, ℕ, suc, ◌+◌, ◌-◌, ◌*◌, ◌/◌, ◌%◌, ◌^◌, ◌<◌, ◌≤◌, sym, ap, ◌∙◌, subst, mul-le-mul_right, mul_assoc, mul_comm, mul-lt-mul_of_pos_right, pow-suc, mul-div_cancel, arith, pow_pos, pow-add}
-use native.Mathlib.Nat.{add-mul-mod_self_right, mul-mod_left, mul-div-mul_right}
+use native.Mathlib.Nat.{add-mul-mod_self_right, mul-div-mul_right}
 use lib.Ieee.{size}
 use lib.Pow.{shl-shr, mod-mod-pow}
-use Rattle.std.proofs.lemmas.Nat.{field_of, shl_whole, div_below, le-div}
+use Rattle.std.proofs.lemmas.Nat.{field_of, div_below, le-div}
 use Rattle.exact.proofs.BitLength.{size_top}
-use Rattle.exact.proofs.Multiples.{multiple_coarser, pow_split}
+use Rattle.exact.proofs.Multiples.{pow_split}
 
 pub shift_down : (n a b : ℕ) → a ≤ b → n * 2 ^ a / 2 ^ b ≡ n / 2 ^ (b - a)
 shift_down n a b h = ap (λ (y : ℕ). n * 2 ^ a / y) (pow_split b a h) ∙ mul-div-mul_right n (2 ^ (b - a)) (pow_pos a)

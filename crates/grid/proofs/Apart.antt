@@ -1,5 +1,5 @@
 -- A grid number strictly between two numbers keeps them from rounding alike.
-use Rattle.std.proofs.Common.{◌≡◌, ℕ, ℤ, pos, negsuc, sym, ◌∙◌, subst, arith}
+use Rattle.std.proofs.Common.{◌≡◌, ℤ, pos, negsuc, sym, ◌∙◌, subst, arith}
 use borrow.Author.Differences.{ints}
 use Rattle.exact.specs.Dyadic.{Dyadic, ◌≤ᴰ◌, ◌<ᴰ◌}
 use Rattle.exact.proofs.Order.{≤ᴰ_trans, ≤ᴰ_of_≈, ≈ᴰ_sym, <ᴰ_≤ᴰ_trans, <ᴰ_not_≥, <ᴰ_of_not_≥}

@@ -4,7 +4,7 @@ use native.Mathlib.Nat.{mod-one, mul-mod_left, zero-mod}
 use borrow.Author.Differences.{ints}
 use Rattle.std.proofs.lemmas.Int.{by_lt_z}
 use Rattle.exact.specs.Integers.{is_negative, signed, gap, scale, lesser}
-use Rattle.exact.specs.Dyadic.{Dyadic, at, exponent, ◌≈ᴰ◌}
+use Rattle.exact.specs.Dyadic.{Dyadic, exponent, ◌≈ᴰ◌}
 use Rattle.exact.proofs.Integers.{signed_abs}
 use Rattle.exact.proofs.Scaling.{scale_scale, scale_signed, scale_none, scale_abs, gap_none, lesser_low}
 use Rattle.exact.proofs.Multiples.{multiple_whole}

@@ -1,5 +1,5 @@
 -- How a sheet in either state goes on with one call more.
-use Rattle.std.proofs.Common.{◌≡◌, ℕ, true, false, List, [], ◌∷◌, ◌++◌, sym, refl, ap, ◌∙◌, subst}
+use Rattle.std.proofs.Common.{◌≡◌, ℕ, true, false, [], ◌∷◌, ◌++◌, sym, ◌∙◌, subst}
 use Rattle.sheet.specs.declared.sheet.OpenSheet.{OpenSheet}
 use Rattle.sheet.specs.declared.sheet.SetSheet.{SetSheet}
 use Rattle.sheet.specs.Model.{Call, History, model, mark_after}

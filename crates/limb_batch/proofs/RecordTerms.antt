@@ -1,5 +1,5 @@
 -- What a record without a fault answers, told by its fields.
-use Rattle.std.proofs.Common.{◌≡◌, ℕ, ◌+◌, ◌-◌, ◌*◌, ◌/◌, ◌%◌, ◌^◌, ◌<◌, ◌≤◌, Bool, true, false, List, map, length, get_or, ℤ, pos, ◌+ℤ◌, ◌-ℤ◌, is_some, Option, sym, refl, ap, ◌∙◌, ap₂, arith}
+use Rattle.std.proofs.Common.{◌≡◌, ℕ, ◌-◌, ◌*◌, ◌/◌, ◌%◌, ◌^◌, ◌<◌, ◌≤◌, Bool, true, false, List, map, length, get_or, ℤ, pos, ◌+ℤ◌, ◌-ℤ◌, is_some, Option, sym, refl, ap, ◌∙◌, ap₂, arith}
 use lib.Ieee.{size}
 use borrow.Author.Tests.{clash}
 use borrow.Author.Differences.{ints}

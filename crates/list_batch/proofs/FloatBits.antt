@@ -1,5 +1,5 @@
 -- The bit pattern of a binary64 number stands for a term that is worth the number.
-use Rattle.std.proofs.Common.{◌≡◌, ℕ, zero, suc, ◌+◌, ◌-◌, ◌*◌, ◌/◌, ◌%◌, ◌^◌, ◌<◌, Bool, true, false, cond, not, T as Holds, eqb, leb, pos, negsuc, ◌-ℤ◌, sym, refl, ap, ◌∙◌, subst, mul_right_comm, arith, pow_pos}
+use Rattle.std.proofs.Common.{◌≡◌, ℕ, zero, suc, ◌+◌, ◌*◌, ◌/◌, ◌%◌, ◌^◌, ◌<◌, Bool, true, false, cond, T as Holds, eqb, leb, pos, negsuc, ◌-ℤ◌, sym, refl, ap, ◌∙◌, subst, mul_right_comm, arith, pow_pos}
 use native.Mathlib.Nat.{eq_of_mul-eq-mul_right}
 use lib.Dec.{eqb-suc-zero}
 use borrow.Author.Tests.{clash}

@@ -1,5 +1,5 @@
 -- The term of a scaled record: n * 2 ^ s.
-use Rattle.std.specs.Prelude.{zero, suc, ◌^◌, ◌<◌, ◌≤◌, true, false, List, [], ◌∷◌, ℤ, pos, negsuc, neg_ℤ, ◌≤ℤ◌, ◌<ℤ◌, refl}
+use Rattle.std.specs.Prelude.{zero, suc, ◌^◌, true, false, List, [], ◌∷◌, ℤ, pos, negsuc, neg_ℤ, ◌≤ℤ◌, ◌<ℤ◌, refl}
 use Rattle.std.proofs.Common.{arith, lit≤}
 use Rattle.std.proofs.lemmas.Int.{ints}
 use Rattle.batch.specs.Term.{Term, Limited, signed_zero, regular}

@@ -1,12 +1,11 @@
 -- What a partial sum holds after each step of absorbing a column, and that it keeps its limits.
-use Rattle.std.proofs.Common.{◌≡◌, ℕ, suc, ◌+◌, ◌-◌, ◌*◌, ◌^◌, ◌<◌, ◌≤◌, ◌≢◌, ◌⊎◌, List, [], ◌∷◌, length, get_or, drop, set, replicate, ℤ, pos, ◌+ℤ◌, ◌-ℤ◌, nat_abs, ◌≤ℤ◌, ◌<ℤ◌, sym, refl, ap, ◌∙◌, subst, inl, inr, ⊎_elim, arith, get_or-set_other, get_or-set_same}
+use Rattle.std.proofs.Common.{◌≡◌, ℕ, ◌+◌, ◌-◌, ◌*◌, ◌^◌, ◌<◌, ◌≤◌, ◌≢◌, List, length, get_or, drop, set, replicate, ℤ, pos, ◌+ℤ◌, nat_abs, ◌<ℤ◌, sym, refl, ap, ◌∙◌, subst, ⊎_elim, arith, get_or-set_other, get_or-set_same}
 use borrow.Author.Differences.{ints}
 use Rattle.std.proofs.lemmas.List.{drop_more, drop_all, get_or-replicate}
 use Rattle.std.proofs.lemmas.Int.{by_lt_z}
 use Rattle.std.proofs.lemmas.Bool.{cases_lt, cases_eq}
-use Rattle.exact.specs.Integers.{gap, scale}
-use Rattle.exact.proofs.Scaling.{scale_none, scale_scale, scale_plus, scale_minus, zero_scale, scale_abs}
-use Rattle.batch.specs.Term.{column_weight}
+use Rattle.exact.specs.Integers.{scale}
+use Rattle.exact.proofs.Scaling.{scale_none, scale_scale, scale_plus, zero_scale}
 use Rattle.totals.specs.Totals.{totals_value}
 use Rattle.partial_sum.specs.Holding.{drop_between, slot, head, window, held, most_total, TotalsWithin, Shaped, Sound, Uncarried, Absorbs, Folds, Appends, Extended, Absorbed}
 use Rattle.partial_sum.specs.declared.sum.PartialSum.{PartialSum}

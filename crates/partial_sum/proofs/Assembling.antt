@@ -1,21 +1,21 @@
 -- What rounding the two ends one by one says of both.
-use Rattle.std.proofs.Common.{◌≡◌, ℕ, ◌+◌, ◌*◌, ◌^◌, ◌<◌, ◌≤◌, Bool, true, false, ℤ, pos, ◌+ℤ◌, ◌-ℤ◌, neg_ℤ, nat_abs, ◌≤ℤ◌, ◌<ℤ◌, Some, None, Option, sym, refl, ap, ◌∙◌, subst, arith}
+use Rattle.std.proofs.Common.{◌≡◌, ℕ, ◌^◌, ◌≤◌, Bool, true, false, ℤ, pos, ◌+ℤ◌, neg_ℤ, nat_abs, ◌≤ℤ◌, ◌<ℤ◌, Some, None, Option, sym, refl, ◌∙◌, subst, arith}
 use borrow.Author.Differences.{ints}
 use Rattle.std.proofs.lemmas.Int.{by_lt_z}
 use Rattle.exact.specs.Integers.{scale}
-use Rattle.exact.specs.Dyadic.{Dyadic, dyadic, ◌≈ᴰ◌}
+use Rattle.exact.specs.Dyadic.{dyadic, ◌≈ᴰ◌}
 use Rattle.exact.proofs.Scaling.{zero_scale}
 use Rattle.exact.proofs.Order.{≈ᴰ_sym, ≈ᴰ_trans}
 use Rattle.batch.specs.Term.{column_weight}
 use Rattle.grid.specs.Spacing.{Lawful}
 use Rattle.grid.specs.Rounding.{Mode, rounded, Alike}
-use Rattle.grid.proofs.Everywhere.{LawsEverywhere, laws_everywhere}
+use Rattle.grid.proofs.Everywhere.{laws_everywhere}
 use Rattle.grid.proofs.Monotone.{congruent}
 use Rattle.ends.specs.declared.rounded_end.RoundedEnd.{RoundedEnd}
 use Rattle.partial_sum.specs.Lying.{Lies}
 use Rattle.partial_sum.specs.Holding.{drop_between, window, held, Sound}
-use Rattle.partial_sum.specs.Ends.{number_held, lower_number, upper_number, LiesAt, Reached, SameEnd}
-use Rattle.partial_sum.specs.Rounded.{Uncertain, Certain, RoundedAt, SameAnswer, Undecided, Decided, BothRounded}
+use Rattle.partial_sum.specs.Ends.{lower_number, upper_number, LiesAt, Reached, SameEnd}
+use Rattle.partial_sum.specs.Rounded.{Uncertain, Certain, SameAnswer, Undecided, Decided}
 use Rattle.partial_sum.specs.declared.sum.PartialSum.{PartialSum}
 use Rattle.partial_sum.specs.declared.end.End.{End}
 use Rattle.partial_sum.proofs.Placing.{lies_once, sum_same}

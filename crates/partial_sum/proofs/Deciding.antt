@@ -1,13 +1,13 @@
 -- Where an end is not determined the two ends do not round alike.
-use Rattle.std.proofs.Common.{◌≡◌, ℕ, zero, suc, ◌+◌, ◌-◌, ◌*◌, ◌^◌, ◌<◌, ◌≤◌, Bool, true, false, ℤ, pos, ◌+ℤ◌, ◌-ℤ◌, neg_ℤ, nat_abs, ◌≤ℤ◌, ◌<ℤ◌, Some, None, Option, sym, refl, ap, ◌∙◌, subst, arith}
+use Rattle.std.proofs.Common.{◌≡◌, ℕ, zero, suc, ◌-◌, ◌^◌, ◌≤◌, true, ℤ, pos, ◌+ℤ◌, neg_ℤ, nat_abs, ◌≤ℤ◌, ◌<ℤ◌, Some, sym, ap, ◌∙◌, subst, arith}
 use lib.Signed.{≤ℤ_refl}
 use lib.Ieee.{size}
 use borrow.Author.Differences.{ints}
-use Rattle.exact.specs.Dyadic.{Dyadic, dyadic, ◌≤ᴰ◌, ◌<ᴰ◌, ◌≈ᴰ◌}
+use Rattle.exact.specs.Dyadic.{Dyadic, dyadic, ◌≤ᴰ◌, ◌<ᴰ◌}
 use Rattle.exact.proofs.Order.{<ᴰ_≤ᴰ_trans}
 use Rattle.batch.specs.Term.{column_weight}
 use Rattle.grid.specs.Spacing.{Lawful, InRange}
-use Rattle.grid.specs.Rounding.{Mode, rounded, OnGrid, Alike}
+use Rattle.grid.specs.Rounding.{Mode, rounded, Alike}
 use Rattle.grid.proofs.Everywhere.{LawsEverywhere, laws_everywhere}
 use Rattle.grid.proofs.Apart.{apart}
 use Rattle.partial_sum.specs.Lying.{Lies}

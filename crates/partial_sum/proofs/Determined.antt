@@ -1,10 +1,9 @@
 -- What an end's sign and magnitude round to is what the numbers at the end round to.
-use Rattle.std.proofs.Common.{◌≡◌, ℕ, ◌+◌, ◌*◌, ◌<◌, Bool, true, false, ℤ, pos, ◌+ℤ◌, ◌-ℤ◌, neg_ℤ, Some, None, Option, sym, refl, ap, ◌∙◌, subst, inl, arith}
-use borrow.Author.Differences.{ints}
+use Rattle.std.proofs.Common.{◌≡◌, ℕ, ◌*◌, Bool, true, false, ℤ, pos, ◌-ℤ◌, Some, None, Option, sym, ap, ◌∙◌, subst, inl, arith}
 use Rattle.exact.specs.Integers.{gap, scale, is_negative}
 use Rattle.exact.specs.Dyadic.{Dyadic, dyadic, ◌≈ᴰ◌}
 use Rattle.exact.proofs.Scaling.{zero_scale, scale_inj}
-use Rattle.grid.specs.Rounding.{Mode, Answer, rounded, OnGrid, Alike}
+use Rattle.grid.specs.Rounding.{Mode, rounded}
 use Rattle.grid.proofs.Outcomes.{exact}
 use Rattle.limbs.specs.Bits.{limbs_for}
 use Rattle.ends.specs.Directions.{direction_sign}
@@ -12,7 +11,7 @@ use Rattle.ends.specs.Outcome.{RoundsTo, Outcome, Undetermined}
 use Rattle.ends.specs.declared.rounded_end.RoundedEnd.{RoundedEnd}
 use Rattle.partial_sum.specs.Lying.{Lies}
 use Rattle.partial_sum.specs.Ends.{Meant}
-use Rattle.partial_sum.specs.Rounded.{Uncertain, Certain, RoundedAt}
+use Rattle.partial_sum.specs.Rounded.{RoundedAt}
 use Rattle.partial_sum.proofs.Meaning.{stands, borders}
 
 pub as_rounded : (u : ℤ → ℤ) (m : Mode) (s partial : Bool) (n : ℕ) (v w : ℤ) (r : Option RoundedEnd) (a : ℕ) → Meant s partial n v → Outcome u m s partial n w r a → Undetermined u s partial n w r → RoundedAt u m partial v w r a

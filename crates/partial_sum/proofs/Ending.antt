@@ -1,8 +1,8 @@
 -- The ends of a partial sum lie where the window and the rest say.
-use Rattle.std.proofs.Common.{◌≡◌, ℕ, ◌+◌, ◌-◌, ◌*◌, ◌^◌, ◌<◌, ◌≤◌, Bool, true, false, ℤ, pos, ◌+ℤ◌, ◌-ℤ◌, neg_ℤ, nat_abs, ◌≤ℤ◌, ◌<ℤ◌, Some, None, Option, sym, refl, ap, ◌∙◌, subst, arith, pow_pos, pow_mono}
+use Rattle.std.proofs.Common.{◌≡◌, ℕ, ◌^◌, ◌<◌, ◌≤◌, Bool, true, ℤ, pos, ◌+ℤ◌, ◌-ℤ◌, neg_ℤ, ◌<ℤ◌, Some, None, sym, refl, ap, subst, arith, pow_mono}
 use borrow.Author.Differences.{ints}
 use Rattle.exact.specs.Integers.{gap, scale}
-use Rattle.exact.specs.Dyadic.{Dyadic, dyadic, ◌≤ᴰ◌, ◌<ᴰ◌, ◌≈ᴰ◌, plus, negation}
+use Rattle.exact.specs.Dyadic.{Dyadic, dyadic, ◌<ᴰ◌, ◌≈ᴰ◌}
 use Rattle.batch.specs.Term.{column_weight}
 use Rattle.partial_sum.specs.Lying.{Placed, Lies}
 use Rattle.partial_sum.specs.Holding.{drop_between, window, held, Sound}

@@ -1,5 +1,5 @@
 -- Tests of a head against the bound on small ones.
-use Rattle.std.proofs.Common.{◌≡◌, ℕ, ◌^◌, ◌<◌, ◌≤◌, Bool, true, false, ℤ, pos, negsuc, nat_abs, ◌≤ℤ◌, ◌<ℤ◌, arith}
+use Rattle.std.proofs.Common.{◌≡◌, ◌^◌, ◌<◌, true, false, ℤ, pos, negsuc, nat_abs, ◌≤ℤ◌, ◌<ℤ◌, arith}
 use lib.Signed.{lt_z}
 use borrow.Author.Differences.{ints}
 

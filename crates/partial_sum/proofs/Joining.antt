@@ -1,5 +1,5 @@
 -- A partial sum that holds the sum of parts has their ends.
-use Rattle.std.proofs.Common.{◌≡◌, ℕ, ◌+◌, ◌<◌, ◌≤◌, Bool, true, false, cond, List, [], ◌∷◌, ℤ, pos, ◌+ℤ◌, ◌<ℤ◌, Some, None, Option, sym, refl, ap, ◌∙◌, subst, inl, inr, arith}
+use Rattle.std.proofs.Common.{◌≡◌, ◌+◌, ◌<◌, Bool, true, cond, List, [], ◌∷◌, ℤ, pos, ◌+ℤ◌, ◌<ℤ◌, Some, None, sym, refl, ap, ◌∙◌, subst, inl, inr, arith}
 use lib.Signed.{lt_z}
 use borrow.Author.Differences.{ints}
 use Rattle.exact.specs.Integers.{scale}
@@ -7,11 +7,11 @@ use Rattle.exact.specs.Dyadic.{Dyadic, dyadic, plus, negation}
 use Rattle.batch.specs.Term.{column_weight}
 use Rattle.column.specs.Parts.{Part, low}
 use Rattle.column.specs.Columns.{Occupied}
-use Rattle.column.specs.Ends.{reaching_below, sum_down_to, bound, lower_end, upper_end}
-use Rattle.column.specs.Walk.{first_column, Highest}
-use Rattle.partial_sum.specs.Holding.{held, drop_between, Absorbed}
-use Rattle.partial_sum.specs.Ends.{number_held, bound_before, Reached}
-use Rattle.partial_sum.specs.Joints.{Holds, SameEnds, EndsAreEnds, ColumnsReached, SumsAbsorbed}
+use Rattle.column.specs.Ends.{reaching_below, sum_down_to, bound}
+use Rattle.column.specs.Walk.{first_column}
+use Rattle.partial_sum.specs.Holding.{drop_between}
+use Rattle.partial_sum.specs.Ends.{number_held, bound_before}
+use Rattle.partial_sum.specs.Joints.{Holds, EndsAreEnds, ColumnsReached, SumsAbsorbed}
 use Rattle.partial_sum.specs.declared.sum.PartialSum.{PartialSum}
 
 same_number : (ps : List Part) (p : PartialSum) (c : ℤ) → Holds ps p c → number_held p ≡ sum_down_to ps c

@@ -1,9 +1,9 @@
 -- What the sign and the magnitude of an end stand for.
-use Rattle.std.proofs.Common.{◌≡◌, ℕ, zero, suc, ◌+◌, ◌^◌, ◌<◌, ◌≤◌, Bool, true, false, ℤ, pos, negsuc, ◌+ℤ◌, neg_ℤ, nat_abs, sym, refl, ap, ◌∙◌, subst, arith}
+use Rattle.std.proofs.Common.{◌≡◌, ℕ, zero, suc, ◌+◌, ◌^◌, ◌<◌, Bool, true, false, ℤ, pos, negsuc, ◌+ℤ◌, neg_ℤ, nat_abs, sym, refl, ap, subst, arith}
 use lib.Ieee.{size}
 use lib.Ieee.Digits.{size-lt}
 use borrow.Author.Differences.{ints}
-use Rattle.exact.specs.Integers.{is_negative, signed}
+use Rattle.exact.specs.Integers.{is_negative}
 use Rattle.exact.specs.Dyadic.{Dyadic, dyadic, ◌<ᴰ◌, ◌≈ᴰ◌}
 use Rattle.grid.specs.Rounding.{OnGrid}
 use Rattle.ends.specs.Ends.{StandsFor, Bordered}

@@ -1,11 +1,11 @@
 -- Where a number of units of one column lies among those of a column above.
-use Rattle.std.proofs.Common.{◌≡◌, ℕ, zero, suc, ◌+◌, ◌-◌, ◌*◌, ◌^◌, ◌<◌, ◌≤◌, Bool, true, false, ℤ, pos, negsuc, ◌+ℤ◌, ◌-ℤ◌, neg_ℤ, nat_abs, ◌≤ℤ◌, ◌<ℤ◌, sym, refl, ap, ◌∙◌, subst, arith, pow_pos, pow_mono}
+use Rattle.std.proofs.Common.{◌≡◌, ℕ, ◌^◌, ◌≤◌, Bool, true, false, ℤ, pos, negsuc, ◌+ℤ◌, ◌-ℤ◌, neg_ℤ, nat_abs, ◌≤ℤ◌, ◌<ℤ◌, sym, refl, ap, ◌∙◌, subst, arith, pow_pos, pow_mono}
 use borrow.Author.Differences.{ints}
 use Rattle.exact.specs.Integers.{gap, scale}
-use Rattle.exact.specs.Dyadic.{Dyadic, dyadic, at, ◌≤ᴰ◌, ◌<ᴰ◌, ◌≈ᴰ◌, plus, negation}
+use Rattle.exact.specs.Dyadic.{Dyadic, dyadic, at, ◌≤ᴰ◌, ◌<ᴰ◌, ◌≈ᴰ◌, plus}
 use Rattle.exact.proofs.Scaling.{scale_none, scale_plus, scale_minus, zero_scale, below_three}
-use Rattle.exact.proofs.Order.{at_lt, lt_at, at_le, le_at, same_at, at_same, <ᴰ_≤ᴰ_trans, ≤ᴰ_of_≈, ≈ᴰ_trans}
-use Rattle.exact.proofs.Sums.{at_plus, at_negation}
+use Rattle.exact.proofs.Order.{at_lt, lt_at, at_le, same_at, <ᴰ_≤ᴰ_trans, ≤ᴰ_of_≈, ≈ᴰ_trans}
+use Rattle.exact.proofs.Sums.{at_plus}
 use Rattle.partial_sum.specs.Lying.{Placed, Lies}
 
 -- ---- less than one unit, on either side of 0

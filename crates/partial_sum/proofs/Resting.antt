@@ -1,5 +1,5 @@
 -- Where the ends of a full window differ, the rest below it is small.
-use Rattle.std.proofs.Common.{◌≡◌, ℕ, ◌+◌, ◌-◌, ◌*◌, ◌^◌, ◌<◌, ◌≤◌, Bool, true, false, ℤ, pos, negsuc, ◌+ℤ◌, ◌-ℤ◌, neg_ℤ, nat_abs, ◌≤ℤ◌, ◌<ℤ◌, Some, None, Option, sym, refl, ap, ◌∙◌, subst, ⊎_elim, arith, pow_mono}
+use Rattle.std.proofs.Common.{◌≡◌, ℕ, ◌+◌, ◌^◌, ◌<◌, ◌≤◌, Bool, true, false, ℤ, pos, negsuc, ◌+ℤ◌, ◌-ℤ◌, neg_ℤ, nat_abs, ◌≤ℤ◌, ◌<ℤ◌, Some, sym, refl, ◌∙◌, ⊎_elim, arith, pow_mono}
 use borrow.Author.Differences.{ints}
 use Rattle.std.proofs.lemmas.Int.{by_lt_z}
 use Rattle.std.proofs.lemmas.Bool.{cases_lt}
@@ -7,9 +7,9 @@ use Rattle.exact.specs.Integers.{scale}
 use Rattle.exact.specs.Dyadic.{Dyadic}
 use Rattle.exact.proofs.Scaling.{zero_scale}
 use Rattle.batch.specs.Term.{column_weight}
-use Rattle.partial_sum.specs.Lying.{Placed, Lies}
-use Rattle.partial_sum.specs.Holding.{drop_between, window, held, Sound}
-use Rattle.partial_sum.specs.Ends.{lower_number, upper_number, LiesAt, PlacedAt, Reached, SameEnd}
+use Rattle.partial_sum.specs.Lying.{Placed}
+use Rattle.partial_sum.specs.Holding.{drop_between, window, Sound}
+use Rattle.partial_sum.specs.Ends.{lower_number, upper_number, LiesAt, Reached, SameEnd}
 use Rattle.partial_sum.specs.declared.sum.PartialSum.{PartialSum}
 use Rattle.partial_sum.specs.declared.end.End.{End}
 use Rattle.partial_sum.proofs.Placing.{lies_once}

@@ -1,12 +1,12 @@
 -- The window with its lowest total changed, as it is settled.
-use Rattle.std.proofs.Common.{◌≡◌, ℕ, suc, ◌+◌, ◌-◌, ◌*◌, ◌^◌, ◌<◌, ◌≤◌, ◌≢◌, List, [], ◌∷◌, ◌++◌, length, get_or, take, drop, set, ℤ, pos, ◌+ℤ◌, nat_abs, sym, refl, ap, ◌∙◌, subst, ⊎_elim, arith, length-set, get_or-set_other, get_or-set_same}
+use Rattle.std.proofs.Common.{◌≡◌, ℕ, suc, ◌+◌, ◌-◌, ◌*◌, ◌^◌, ◌<◌, ◌≤◌, ◌≢◌, List, [], ◌∷◌, ◌++◌, length, get_or, take, drop, set, ℤ, pos, ◌+ℤ◌, nat_abs, sym, ap, ◌∙◌, subst, ⊎_elim, arith, length-set, get_or-set_other, get_or-set_same}
 use borrow.Author.Differences.{ints}
 use Rattle.std.proofs.lemmas.List.{take_rest, get_or-drop, length-drop, length-append, set_split, take_at, drop_all}
 use Rattle.std.proofs.lemmas.Bool.{cases_lt, cases_eq}
 use Rattle.exact.specs.Limbs.{limbs_value}
 use Rattle.exact.proofs.LimbSteps.{value_push}
 use Rattle.totals.specs.Totals.{totals_value, SmallTotals}
-use Rattle.partial_sum.specs.Holding.{slot, head, window, Sound}
+use Rattle.partial_sum.specs.Holding.{slot, window, Sound}
 use Rattle.partial_sum.specs.declared.sum.PartialSum.{PartialSum}
 use Rattle.partial_sum.proofs.Windows.{value_changed}
 

@@ -1,5 +1,5 @@
 -- An answer's limbs, exponent and precision are determined by what number it is.
-use Rattle.std.proofs.Common.{◌≡◌, ℕ, zero, suc, ◌+◌, ◌-◌, ◌*◌, ◌/◌, ◌^◌, ◌<◌, ◌≤◌, Bool, true, false, ℤ, pos, negsuc, ◌+ℤ◌, ◌-ℤ◌, neg_ℤ, nat_abs, sym, refl, ap, ◌∙◌, subst, mul-pos, pow-suc, arith, pow_pos}
+use Rattle.std.proofs.Common.{◌≡◌, ℕ, zero, suc, ◌+◌, ◌-◌, ◌*◌, ◌^◌, ◌<◌, ◌≤◌, Bool, true, false, ℤ, pos, ◌+ℤ◌, ◌-ℤ◌, nat_abs, sym, refl, ap, ◌∙◌, subst, mul-pos, pow-suc, arith, pow_pos}
 use lib.Ieee.{size}
 use borrow.Author.Differences.{ints}
 use Rattle.exact.specs.Integers.{gap, scale, signed}
@@ -12,7 +12,7 @@ use Rattle.exact.proofs.Exponents.{exponent_≈, nonzero_≈}
 use Rattle.grid.specs.Rounding.{Mode, rounded, Alike}
 use Rattle.limbs.specs.Bits.{limbs_for}
 use Rattle.ends.specs.Directions.{direction_sign}
-use Rattle.ends.specs.Outcome.{in_units, RoundsTo, Placed}
+use Rattle.ends.specs.Outcome.{RoundsTo, Placed}
 use Rattle.ends.specs.declared.direction.Direction.{Direction}
 use Rattle.ends.specs.declared.direction.Direction.TheVariants.{Below, Exact, Above}
 use Rattle.ends.specs.declared.rounded_end.RoundedEnd.{RoundedEnd}

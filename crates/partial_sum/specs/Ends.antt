@@ -1,5 +1,5 @@
 -- The two ends of a partial sum.
-use Rattle.std.specs.Prelude.{◌≡◌, ℕ, ◌+◌, ◌^◌, ◌<◌, ◌≤◌, Bool, true, false, ℤ, pos, ◌+ℤ◌, neg_ℤ, nat_abs, ◌≤ℤ◌, ◌<ℤ◌, Some, None, Option}
+use Rattle.std.specs.Prelude.{◌≡◌, ℕ, ◌+◌, ◌<◌, ◌≤◌, Bool, true, false, ℤ, pos, ◌+ℤ◌, neg_ℤ, ◌<ℤ◌, Some, None, Option}
 use Rattle.exact.specs.Dyadic.{Dyadic, dyadic, plus, negation}
 use Rattle.batch.specs.Term.{column_weight}
 use Rattle.partial_sum.specs.Lying.{Placed, Lies}

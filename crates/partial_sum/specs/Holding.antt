@@ -1,5 +1,5 @@
 -- What number a partial sum holds, and the limits that it keeps to.
-use Rattle.std.specs.Prelude.{◌≡◌, ℕ, ◌+◌, ◌-◌, ◌^◌, ◌<◌, ◌≤◌, ◌⊎◌, List, drop, ℤ, pos, ◌+ℤ◌, ◌≤ℤ◌, ◌<ℤ◌, slice_index_or, unsigned_abs}
+use Rattle.std.specs.Prelude.{◌≡◌, ℕ, ◌+◌, ◌-◌, ◌^◌, ◌<◌, ◌≤◌, ◌⊎◌, drop, ℤ, pos, ◌+ℤ◌, ◌≤ℤ◌, ◌<ℤ◌, slice_index_or, unsigned_abs}
 use Rattle.exact.specs.Integers.{gap, scale}
 use Rattle.batch.specs.Term.{column_weight}
 use Rattle.totals.specs.Totals.{totals_value}

@@ -1,5 +1,5 @@
 -- Where a partial sum holds the sum of parts as far as a column, what is said of it is said of the parts.
-use Rattle.std.specs.Prelude.{◌≡◌, ℕ, ◌≤◌, List, [], ◌∷◌, ℤ, Option}
+use Rattle.std.specs.Prelude.{◌≡◌, ◌≤◌, List, ◌∷◌, ℤ, Option}
 use Rattle.batch.specs.Term.{column_weight}
 use Rattle.column.specs.Parts.{Part, Regular}
 use Rattle.column.specs.Columns.{Occupied}

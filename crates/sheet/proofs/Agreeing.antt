@@ -1,11 +1,11 @@
 -- How a sheet goes on agreeing with the model.
-use Rattle.std.proofs.Common.{◌≡◌, ℕ, suc, ◌+◌, ◌-◌, ◌<◌, cond, eqb, List, [], ◌∷◌, ◌++◌, length, Some, None, sym, refl, ap, ◌∙◌, subst, ⊎_elim, arith}
+use Rattle.std.proofs.Common.{◌≡◌, ℕ, ◌+◌, ◌-◌, cond, eqb, List, [], ◌∷◌, ◌++◌, length, Some, None, sym, ap, ◌∙◌, subst, ⊎_elim, arith}
 use mathlib.Core.Path.{fun_ext}
 use Rattle.std.proofs.lemmas.Bool.{cases_eq, cond-true, cond-false, eq-eqb, ne_eqb}
 use Rattle.sheet.specs.declared.mark.Mark.{Mark}
 use Rattle.sheet.specs.declared.trail.Step.{Step}
 use Rattle.sheet.specs.Numbers.{Refusal, mark_numbered}
-use Rattle.sheet.specs.Model.{Call, marking, undoing, History, Note, Model, last_mark, without_last, done, model, refusal_after}
+use Rattle.sheet.specs.Model.{Call, marking, History, Note, Model, done, model, refusal_after}
 use Rattle.sheet.specs.Undo.{restored}
 use Rattle.sheet.specs.Reached.{Shows, Agrees, undone}
 use Rattle.sheet.proofs.Notes.{last_mark_push, without_last_push, after_done, after_refused}

@@ -1,11 +1,11 @@
 -- Notes and histories with one more at the end.
-use Rattle.std.proofs.Common.{◌≡◌, ℕ, ◌+◌, ◌-◌, cond, eqb, List, [], ◌∷◌, ◌++◌, length, is_some, Some, None, sym, refl, ap, ◌∙◌, arith}
+use Rattle.std.proofs.Common.{◌≡◌, ℕ, ◌-◌, cond, eqb, List, [], ◌∷◌, ◌++◌, length, is_some, Some, None, ap, ◌∙◌, arith}
 use Rattle.std.proofs.lemmas.List.{length_push, take_at}
 use Rattle.std.proofs.lemmas.List.Sums.{fold_push}
 use Rattle.std.proofs.lemmas.Bool.{cond-true, cond-false}
 use Rattle.sheet.specs.declared.mark.Mark.TheVariants.{Out}
 use Rattle.sheet.specs.Numbers.{Refusal}
-use Rattle.sheet.specs.Model.{Call, Note, Model, last_mark, without_last, blank, done, after, model, refusal_after}
+use Rattle.sheet.specs.Model.{Call, Note, last_mark, without_last, blank, done, after, model, refusal_after}
 
 -- a last note gives its place its mark, and no other place one
 pub last_mark_push : (ns : List Note) (n : Note) (p : ℕ) → last_mark (ns ++ n ∷ []) p ≡ cond (eqb n.place p) n.mark (last_mark ns p)

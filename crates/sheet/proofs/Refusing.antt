@@ -1,10 +1,10 @@
 -- Which refusal comes first.
-use Rattle.std.proofs.Common.{◌≡◌, ℕ, ◌<◌, ◌≤◌, IsErrAnd, Some, None, Ok, Err, Result, sym, refl, ap, ◌∙◌}
+use Rattle.std.proofs.Common.{◌≡◌, ℕ, ◌<◌, ◌≤◌, IsErrAnd, Some, None, Err, Result, ap, ◌∙◌}
 use Rattle.std.proofs.lemmas.Result.{err_from_is_err_and}
 use Rattle.std.proofs.lemmas.Bool.{cond-true, cond-false, eq-eqb, ne_eqb, lt-ltb, le-ltb}
 use Rattle.sheet.specs.declared.fault.SheetFault.{SheetFault}
 use Rattle.sheet.specs.Numbers.{refused_by, told, fault_refusal}
-use Rattle.sheet.specs.Model.{Call, marking, undoing, Model, refusal}
+use Rattle.sheet.specs.Model.{marking, undoing, Model, refusal}
 
 module _ (m : Model) where
   pub refused_place : (p k : ℕ) → 1023 < p → refusal {Q = Unit {0}} m (marking p k) ≡ Some (refused_by 11)

@@ -1,10 +1,10 @@
 -- What a setting settles: no later undo reaches the notes made before it.
-use Rattle.std.proofs.Common.{◌≡◌, ℕ, ◌+◌, ◌-◌, ◌<◌, ◌≤◌, false, List, [], ◌∷◌, ◌++◌, length, take, is_some, None, fold, sym, refl, ap, ◌∙◌, subst, ⊎_elim, append_assoc, arith}
+use Rattle.std.proofs.Common.{◌≡◌, ℕ, ◌+◌, ◌-◌, ◌<◌, ◌≤◌, false, List, [], ◌∷◌, ◌++◌, length, take, is_some, fold, sym, refl, ap, ◌∙◌, ⊎_elim, append_assoc, arith}
 use Rattle.std.proofs.lemmas.List.{take_all, take-take, take-append-le, length_push, length-take-le}
 use Rattle.std.proofs.lemmas.Bool.{cond-false, cond_both, cases_lt, cases_eq, ne_eqb, true≢false}
 use Rattle.sheet.specs.declared.mark.Mark.{Mark}
 use Rattle.sheet.specs.Numbers.{mark_numbered}
-use Rattle.sheet.specs.Model.{Call, marking, undoing, setting, reopening, asking, History, Note, Model, last_mark, without_last, refusal, done, after, model, mark_after}
+use Rattle.sheet.specs.Model.{Call, marking, undoing, setting, reopening, asking, History, Note, Model, last_mark, refusal, done, after, model, mark_after}
 use Rattle.sheet.specs.Laws.{Taken, Leaves, Unmarked}
 use Rattle.sheet.proofs.Notes.{last_mark_push, after_done}
 use Rattle.sheet.proofs.Agreeing.{undone_marking}

@@ -1,5 +1,5 @@
 -- A trail read as a stack: one step more, one step less.
-use Rattle.std.proofs.Common.{◌≡◌, ℕ, ◌+◌, ◌-◌, ◌<◌, ◌≤◌, List, [], ◌∷◌, ◌++◌, reverse, length, get_or, take, set, sym, refl, ap, ◌∙◌, arith}
+use Rattle.std.proofs.Common.{◌≡◌, ℕ, ◌+◌, ◌-◌, ◌<◌, ◌≤◌, List, [], ◌∷◌, ◌++◌, reverse, length, get_or, take, set, ap, ◌∙◌, arith}
 use Rattle.std.proofs.lemmas.List.{reverse-append, take_more, take_more_set, length-reverse, length-take-le}
 
 -- the last step comes first

@@ -1,5 +1,5 @@
 -- Laws over whole histories, in the words of the sheet's user.
-use Rattle.std.specs.Prelude.{◌≡◌, ℕ, List, [], ◌∷◌, None}
+use Rattle.std.specs.Prelude.{◌≡◌, ℕ, [], ◌∷◌, None}
 use Rattle.sheet.specs.Model.{Call, marking, undoing, setting, reopening, asking, History, refusal_after}
 
 -- the call is done, not refused, after the history

@@ -4,7 +4,7 @@ use Rattle.sheet.specs.declared.mark.Mark.{Mark}
 use Rattle.sheet.specs.declared.trail.Step.{Step}
 use Rattle.sheet.specs.declared.sheet.OpenSheet.{OpenSheet}
 use Rattle.sheet.specs.declared.sheet.SetSheet.{SetSheet}
-use Rattle.sheet.specs.Model.{Call, undoing, History, Model, last_mark, done, model}
+use Rattle.sheet.specs.Model.{undoing, History, Model, last_mark, done, model}
 use Rattle.sheet.specs.Shown.{shown}
 use Rattle.sheet.specs.Undo.{undoes, restored}
 

@@ -1,5 +1,5 @@
 -- Each turn empties the trail in time, so that only a place past the last is refused.
-use Rattle.std.proofs.Common.{ℕ, ◌+◌, ◌%◌, ◌<◌, ap, ◌∙◌, arith}
+use Rattle.std.proofs.Common.{ℕ, ◌+◌, ◌%◌, ap, ◌∙◌, arith}
 use Rattle.whole_sheet.specs.FirstPlaces.{first_in}
 use Rattle.whole_sheet.proofs.Marking.{set_shows, refused_exit}
 use Rattle.whole_sheet.proofs.first_in.Goals as goal

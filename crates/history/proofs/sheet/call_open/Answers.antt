@@ -1,6 +1,6 @@
-use Rattle.std.proofs.Common.{◌≡◌, List, [], ◌∷◌, ◌++◌, is_some, sym, refl, ap, ◌∙◌, subst}
+use Rattle.std.proofs.Common.{◌≡◌, [], ◌∷◌, ◌++◌, is_some, sym, refl, ap, ◌∙◌, subst}
 use Rattle.std.proofs.lemmas.Bool.{false≢true}
-use Rattle.sheet.specs.Model.{Call, History, marking, undoing, setting, reopening}
+use Rattle.sheet.specs.Model.{Call, marking, undoing, setting, reopening}
 use Rattle.history.specs.declared.sheet.Sheet.TheVariants.{Open, Set}
 use Rattle.history.specs.Data.{call_of}
 use Rattle.history.specs.Reaches.{Reaches}

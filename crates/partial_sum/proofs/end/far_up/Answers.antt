@@ -1,4 +1,4 @@
-use Rattle.std.proofs.Common.{◌≡◌, ℤ, pos, ◌<ℤ◌, arith}
+use Rattle.std.proofs.Common.{arith}
 use Rattle.std.proofs.lemmas.Int.{ints}
 use Rattle.partial_sum.proofs.Placing.{placed_above, placed_below}
 use Rattle.partial_sum.proofs.end.far_up.Goals as goal

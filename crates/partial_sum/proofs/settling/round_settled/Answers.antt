@@ -1,7 +1,5 @@
-use Rattle.std.proofs.Common.{◌≡◌, ℕ, ◌^◌, ◌<◌, Bool, true, false, ℤ, pos, sym, refl, ap, ◌∙◌, subst, arith, w32, rules}
-use lib.Ieee.{size}
-use lib.Ieee.Digits.{size-lt}
-use Rattle.std.proofs.lemmas.Int.{ints, to_z-of_z}
+use Rattle.std.proofs.Common.{ℤ, sym, refl, ◌∙◌, subst, w32, rules}
+use Rattle.std.proofs.lemmas.Int.{to_z-of_z}
 use Rattle.exact.specs.Limbs.{limbs_value}
 use Rattle.grid.specs.Modes.{mode_of}
 use Rattle.batch.specs.Term.{column_weight}

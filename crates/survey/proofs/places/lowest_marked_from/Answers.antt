@@ -1,4 +1,4 @@
-use Rattle.std.proofs.Common.{◌≡◌, sym, refl, ap, ◌∙◌, arith}
+use Rattle.std.proofs.Common.{sym, refl, ap, ◌∙◌}
 use Rattle.sheet.specs.Shown.{shown}
 use Rattle.survey.specs.Places.{is_marked}
 use Rattle.survey.proofs.Marked.{marked_here, marked_later, marked_nowhere}

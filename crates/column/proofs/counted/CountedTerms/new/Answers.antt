@@ -1,5 +1,5 @@
 -- One place more, counted or not; at the end the list stands for all parts, none of them 0.
-use Rattle.std.proofs.Common.{◌≡◌, ℕ, ◌+◌, ◌≤◌, List, map, length, take, sym, ap, ◌∙◌, subst, arith}
+use Rattle.std.proofs.Common.{◌≡◌, ℕ, ◌+◌, ◌≤◌, List, map, take, sym, ap, ◌∙◌, subst, arith}
 use Rattle.std.proofs.lemmas.List.{take_all}
 use Rattle.batch.specs.Term.{Term}
 use Rattle.sheet.specs.Shown.{shown}

@@ -1,5 +1,5 @@
 -- The batch's low weight is the part's, and 64 bits hold both weights.
-use Rattle.std.proofs.Common.{◌≡◌, ℤ, pos, ◌*ℤ◌, sym, ◌∙◌, ap₂, arith, w64, to_z, of_z}
+use Rattle.std.proofs.Common.{◌≡◌, pos, ◌*ℤ◌, sym, ◌∙◌, ap₂, arith, w64, to_z, of_z}
 use lib.Signed.{lt_z}
 use borrow.Author.Differences.{ints}
 use Rattle.batch.specs.Term.{column_weight}

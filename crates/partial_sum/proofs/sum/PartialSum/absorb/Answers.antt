@@ -1,9 +1,7 @@
-use Rattle.std.proofs.Common.{◌≡◌, ℕ, ◌^◌, ◌<◌, ◌≤◌, set, ℤ, pos, ◌+ℤ◌, ◌-ℤ◌, nat_abs, ◌≤ℤ◌, ◌<ℤ◌, sym, refl, ap, ◌∙◌, subst, inl, inr, arith, w32, w64, SFits, to_z, of_z, rules}
-use Rattle.std.proofs.lemmas.Int.{ints, to_z-of_z}
-use Rattle.exact.specs.Integers.{scale}
-use Rattle.partial_sum.specs.Holding.{head, slot, Extended}
+use Rattle.std.proofs.Common.{ℤ, ◌≤ℤ◌, sym, ◌∙◌, subst, w32, w64, to_z, of_z}
+use Rattle.std.proofs.lemmas.Int.{to_z-of_z}
 use Rattle.partial_sum.proofs.sum.PartialSum.absorb.Goals as goal
-use Rattle.partial_sum.specs.Holding.{Absorbed, held, drop_between}
+use Rattle.partial_sum.specs.Holding.{Absorbed}
 use Rattle.partial_sum.specs.declared.sum.PartialSum.{PartialSum}
 use Rattle.partial_sum.proofs.sum.PartialSum.absorb.Goals.{then-folds_into_head, else-folds_into_head}
 

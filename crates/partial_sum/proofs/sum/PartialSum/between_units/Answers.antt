@@ -1,4 +1,4 @@
-use Rattle.std.proofs.Common.{◌≡◌, ◌^◌, ◌≤◌, ℤ, nat_abs, sym, refl, subst, w64, SFits, rules}
+use Rattle.std.proofs.Common.{◌^◌, ◌≤◌, ℤ, nat_abs, sym, refl, subst, w64, SFits, rules}
 use Rattle.std.proofs.lemmas.Int.{to_z-of_z}
 use Rattle.partial_sum.specs.Ends.{Between}
 use Rattle.partial_sum.proofs.sum.PartialSum.between_units.Goals as goal

@@ -1,7 +1,7 @@
-use Rattle.std.proofs.Common.{◌≡◌, ℕ, ◌^◌, ◌<◌, ◌≤◌, set, ℤ, pos, ◌+ℤ◌, ◌-ℤ◌, nat_abs, ◌≤ℤ◌, ◌<ℤ◌, sym, refl, ap, ◌∙◌, subst, inl, inr, arith, w32, w64, SFits, to_z, of_z, rules}
+use Rattle.std.proofs.Common.{◌≡◌, set, ℤ, ◌+ℤ◌, refl, ap, arith, w32, w64, SFits, to_z, of_z, rules}
 use Rattle.std.proofs.lemmas.Int.{ints, to_z-of_z}
 use Rattle.exact.specs.Integers.{scale}
-use Rattle.partial_sum.specs.Holding.{head, slot, Extended}
+use Rattle.partial_sum.specs.Holding.{slot}
 use Rattle.partial_sum.proofs.sum.PartialSum.fold.Goals as goal
 use Rattle.partial_sum.proofs.Absorbing.{folded}
 

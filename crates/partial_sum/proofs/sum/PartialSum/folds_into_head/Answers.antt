@@ -1,7 +1,7 @@
-use Rattle.std.proofs.Common.{◌≡◌, ℕ, ◌^◌, ◌<◌, ◌≤◌, Bool, true, false, ℤ, pos, negsuc, ◌+ℤ◌, nat_abs, ◌≤ℤ◌, ◌<ℤ◌, sym, refl, ap, ◌∙◌, subst, inl, inr, arith, w32, w64, SFits, rules}
+use Rattle.std.proofs.Common.{◌≡◌, true, false, ℤ, pos, negsuc, ◌≤ℤ◌, ◌<ℤ◌, subst, inl, arith, w32, w64, SFits, rules}
 use lib.Signed.{lt_z}
 use Rattle.std.proofs.lemmas.Int.{ints, to_z-of_z}
-use Rattle.partial_sum.specs.Holding.{head, slot, Folds, Appends}
+use Rattle.partial_sum.specs.Holding.{slot}
 use Rattle.partial_sum.proofs.sum.PartialSum.folds_into_head.Goals as goal
 use Rattle.partial_sum.proofs.Heads.{small_below, large_below, small_above, large_above, not_both}
 

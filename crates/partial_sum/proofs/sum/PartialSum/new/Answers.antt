@@ -1,5 +1,5 @@
-use Rattle.std.proofs.Common.{set, replicate, ℤ, pos, sym, refl, ap, ◌∙◌, arith, w32, w64, rules}
-use Rattle.std.proofs.lemmas.Int.{ints, to_z-of_z}
+use Rattle.std.proofs.Common.{set, replicate, ℤ, pos, refl, ap, w32, w64}
+use Rattle.std.proofs.lemmas.Int.{to_z-of_z}
 use Rattle.partial_sum.proofs.Absorbing.{started}
 use Rattle.partial_sum.proofs.sum.PartialSum.new.Goals as goal
 

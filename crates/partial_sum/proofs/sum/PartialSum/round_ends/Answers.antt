@@ -1,8 +1,6 @@
-use Rattle.std.proofs.Common.{◌≡◌, ℕ, ◌≤◌, ℤ, sym, refl, arith}
-use Rattle.std.proofs.lemmas.Int.{ints}
+use Rattle.std.proofs.Common.{◌≤◌, sym, arith}
 use Rattle.exact.specs.Limbs.{limbs_value}
 use Rattle.grid.specs.Modes.{mode_of}
-use Rattle.partial_sum.specs.Ends.{SameEnd}
 use Rattle.partial_sum.specs.Rounded.{SameFields, SameAnswer}
 use Rattle.partial_sum.proofs.Assembling.{undecided_lower, undecided_upper, decided, decided_at_once, undecided}
 use Rattle.partial_sum.proofs.Shortness.{undecided_yet}

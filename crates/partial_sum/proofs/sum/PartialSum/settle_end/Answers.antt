@@ -1,10 +1,10 @@
-use Rattle.std.proofs.Common.{◌≡◌, ℕ, ◌^◌, ◌≤◌, Bool, true, false, ℤ, pos, ◌+ℤ◌, nat_abs, sym, ap, ◌∙◌, subst, arith, w64, SFits, to_z, of_z, rules}
+use Rattle.std.proofs.Common.{◌≡◌, ℕ, Bool, true, ℤ, pos, ◌+ℤ◌, nat_abs, sym, ap, ◌∙◌, subst, arith, w64, SFits, rules}
 use Rattle.std.proofs.lemmas.Int.{ints, to_z-of_z}
 use Rattle.exact.specs.Integers.{is_negative}
 use Rattle.exact.specs.Limbs.{limbs_value}
 use Rattle.partial_sum.specs.Holding.{window}
 use Rattle.partial_sum.specs.Ends.{Meant}
-use Rattle.partial_sum.proofs.Meaning.{meant_plus, meant_minus, meant_part}
+use Rattle.partial_sum.proofs.Meaning.{meant_part}
 use Rattle.partial_sum.proofs.sum.PartialSum.settle_end.Goals as goal
 
 pub returns-then-end : goal.returns-then-end

@@ -1,4 +1,4 @@
-use Rattle.std.proofs.Common.{ℕ, ℤ, pos, arith, w32, SFits, rules}
+use Rattle.std.proofs.Common.{arith, w32, SFits, rules}
 use Rattle.std.proofs.lemmas.Int.{ints}
 use Rattle.partial_sum.proofs.Shortness.{window_exponent}
 use Rattle.partial_sum.proofs.sum.PartialSum.top_exponent.Goals as goal

@@ -1,8 +1,7 @@
-use Rattle.std.proofs.Common.{◌≡◌, ◌<◌, ◌≤◌, List, [], ◌∷◌, ◌++◌, sym, refl, ap, ◌∙◌, subst, arith, rules}
+use Rattle.std.proofs.Common.{◌≡◌, ◌≤◌, [], ◌∷◌, ◌++◌, sym, refl, ap, ◌∙◌, subst, arith}
 use Rattle.std.proofs.lemmas.Bool.{false≢true}
 use Rattle.sheet.specs.declared.trail.Step.{Step}
 use Rattle.sheet.specs.declared.trail.Trail.{Trail}
-use Rattle.sheet.specs.declared.sheet.OpenSheet.{OpenSheet}
 use Rattle.sheet.specs.Numbers.{refused_by}
 use Rattle.sheet.specs.Model.{marking, model}
 use Rattle.sheet.specs.Shown.{shown}

@@ -1,6 +1,5 @@
-use Rattle.std.proofs.Common.{◌≡◌, ℕ, List, [], ◌∷◌, ◌++◌, length, sym, refl, ap, ◌∙◌, subst, arith, rules}
+use Rattle.std.proofs.Common.{◌≡◌, ℕ, [], ◌∷◌, ◌++◌, length, sym, ap, ◌∙◌, subst, arith}
 use Rattle.std.proofs.lemmas.Bool.{false≢true}
-use Rattle.sheet.specs.declared.trail.Step.{Step}
 use Rattle.sheet.specs.declared.trail.Trail.{Trail}
 use Rattle.sheet.specs.declared.sheet.OpenSheet.{OpenSheet}
 use Rattle.sheet.specs.Numbers.{refused_by}

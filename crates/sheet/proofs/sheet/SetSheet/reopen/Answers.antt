@@ -1,5 +1,5 @@
 use Rattle.std.proofs.Common.{sym, refl, subst}
-use Rattle.sheet.specs.Model.{reopening, model}
+use Rattle.sheet.specs.Model.{reopening}
 use Rattle.sheet.specs.Reached.{Agrees}
 use Rattle.sheet.proofs.Agreeing.{then_agrees}
 use Rattle.sheet.proofs.sheet.SetSheet.reopen.Goals as goal

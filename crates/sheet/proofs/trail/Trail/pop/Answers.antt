@@ -1,4 +1,4 @@
-use Rattle.std.proofs.Common.{◌≡◌, ◌<◌, ◌≤◌, length, arith, rules}
+use Rattle.std.proofs.Common.{◌≡◌, ◌<◌, ◌≤◌, length, arith}
 use Rattle.sheet.proofs.Stack.{popped}
 use Rattle.sheet.proofs.trail.Trail.pop.Goals as goal
 

@@ -1,4 +1,4 @@
-use Rattle.std.proofs.Common.{◌≡◌, ◌<◌, ◌≤◌, reverse, length, take, refl, ◌∙◌, arith, rules}
+use Rattle.std.proofs.Common.{◌≡◌, ◌<◌, ◌≤◌, length, refl, arith}
 use Rattle.sheet.proofs.Stack.{pushed, stack_length}
 use Rattle.sheet.proofs.trail.Trail.push.Goals as goal
 
