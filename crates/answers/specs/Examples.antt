@@ -1,6 +1,6 @@
 -- Worked entries, which the checker computes from the definitions.
 use Rattle.std.specs.Prelude.{◌≡◌, ℕ, true, false, List, [], ◌∷◌, ℤ, pos, neg_ℤ, slice_index_or}
-use Rattle.std.specs.List.{AllByRecursion as All}
+use Rattle.std.specs.List.{AllByRecursion}
 use Rattle.grid.specs.Spacing.{free, floored}
 use Rattle.grid.specs.Rounding.{Mode, nearest, downward, upward, toward_zero, away_from_zero}
 use Rattle.batch.specs.Term.{Term, infinite, signed_zero, regular}
@@ -87,4 +87,4 @@ abbrev pub Holds : Entry → Type 0
 Holds x = answer (λ p. slice_index_or x.marks p Out) x.terms x.spacing x.mode 2 ≡ x.answer
 
 abbrev pub EntriesHold : Type 0
-EntriesHold = All Holds entries
+EntriesHold = AllByRecursion Holds entries

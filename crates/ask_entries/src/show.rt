@@ -1,7 +1,7 @@
 // What is printed of a sheet and of a call's outcome.
 
 use ask::{Answer, AskFault};
-use ask_history::sheet::Sheet;
+use ask_history::any_sheet::Sheet;
 use ends::Direction;
 use sheet::fault::SheetFault;
 use sheet::mark::Mark;

@@ -14,7 +14,7 @@ use Rattle.ask_history.specs.declared.call.SheetCall.{SheetCall}
 use Rattle.ask_history.specs.declared.call.SheetCall.TheVariants.{Mark, Undo, Set as SetCall, Reopen, Ask}
 use Rattle.ask_history.specs.declared.outcome.Outcome.{Outcome}
 use Rattle.ask_history.specs.declared.outcome.Outcome.TheVariants.{Answered}
-use Rattle.ask_history.specs.declared.sheet.Sheet.TheVariants.{Set}
+use Rattle.ask_history.specs.declared.any_sheet.Sheet.TheVariants.{Set}
 use Rattle.ask_history.specs.Data.{call_of, reply_told}
 use Rattle.ask_history.specs.Law.{CallLaw}
 use Rattle.ask_history.specs.NoTerms.{none_batchable}

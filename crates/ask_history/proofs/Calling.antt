@@ -12,8 +12,8 @@ use Rattle.answers.specs.Trace.{Event, event, without_question, history_of, repl
 use Rattle.ask_history.specs.declared.outcome.CallFault.TheVariants.{OutOfTurn}
 use Rattle.ask_history.specs.declared.outcome.Outcome.{Outcome}
 use Rattle.ask_history.specs.declared.outcome.Outcome.TheVariants.{Refused}
-use Rattle.ask_history.specs.declared.sheet.Sheet.{Sheet}
-use Rattle.ask_history.specs.declared.sheet.Sheet.TheVariants.{Open}
+use Rattle.ask_history.specs.declared.any_sheet.Sheet.{Sheet}
+use Rattle.ask_history.specs.declared.any_sheet.Sheet.TheVariants.{Open}
 use Rattle.ask_history.specs.Data.{reply_told, is_refusal, is_answer}
 use Rattle.ask_history.specs.Law.{CallLaw}
 use Rattle.answers.proofs.Traces.{trace_goes_on}

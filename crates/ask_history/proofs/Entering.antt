@@ -8,7 +8,7 @@ use Rattle.answers.specs.Asked.{Question}
 use Rattle.answers.specs.Trace.{Event, event, history_of, without_question, reply_after}
 use Rattle.ask_history.specs.declared.outcome.Outcome.{Outcome}
 use Rattle.ask_history.specs.declared.outcome.Outcome.TheVariants.{Done}
-use Rattle.ask_history.specs.declared.sheet.Sheet.{Sheet}
+use Rattle.ask_history.specs.declared.any_sheet.Sheet.{Sheet}
 use Rattle.ask_history.specs.Data.{reply_told}
 use Rattle.ask_history.specs.Law.{CallLaw, trace_of, history_run, EntryLaw}
 use Rattle.ask_history.specs.Traced.{Traced, shown_on}

@@ -10,8 +10,8 @@ use Rattle.sheet.proofs.Agreeing.{agrees_shows}
 use Rattle.sheet.proofs.Turning.{open_after_push, fitting_push, fitting_skip}
 use Rattle.answers.specs.Asked.{Question, Reply}
 use Rattle.answers.specs.Trace.{Event, event, without_question, history_of, LawfulTrace}
-use Rattle.ask_history.specs.declared.sheet.Sheet.{Sheet}
-use Rattle.ask_history.specs.declared.sheet.Sheet.TheVariants.{Open, Set}
+use Rattle.ask_history.specs.declared.any_sheet.Sheet.{Sheet}
+use Rattle.ask_history.specs.declared.any_sheet.Sheet.TheVariants.{Open, Set}
 use Rattle.ask_history.specs.Traced.{Traced, shown_on}
 
 abbrev pub is_open : Sheet → Bool

@@ -8,7 +8,7 @@ use Rattle.answers.specs.Trace.{Event, event, without_question, history_of, repl
 use Rattle.ask_history.specs.declared.call.SheetCall.{SheetCall}
 use Rattle.ask_history.specs.declared.outcome.Outcome.{Outcome}
 use Rattle.ask_history.specs.declared.outcome.Outcome.TheVariants.{Done}
-use Rattle.ask_history.specs.declared.sheet.Sheet.{Sheet}
+use Rattle.ask_history.specs.declared.any_sheet.Sheet.{Sheet}
 use Rattle.ask_history.specs.Data.{call_of, reply_told, is_refusal, is_answer}
 use Rattle.ask_history.specs.Traced.{Traced, shown_on}
 

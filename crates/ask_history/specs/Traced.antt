@@ -3,8 +3,8 @@ use Rattle.std.specs.Prelude.{ℕ, List}
 use Rattle.sheet.specs.Shown.{shown}
 use Rattle.sheet.specs.declared.mark.Mark.{Mark}
 use Rattle.answers.specs.Trace.{Event, TracedOpen, TracedSet}
-use Rattle.ask_history.specs.declared.sheet.Sheet.{Sheet}
-use Rattle.ask_history.specs.declared.sheet.Sheet.TheVariants.{Open, Set}
+use Rattle.ask_history.specs.declared.any_sheet.Sheet.{Sheet}
+use Rattle.ask_history.specs.declared.any_sheet.Sheet.TheVariants.{Open, Set}
 
 -- the trace is lawful, and its calls lead to the sheet
 abbrev pub Traced : List Event → Sheet → Type 0

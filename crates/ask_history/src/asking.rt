@@ -2,7 +2,7 @@
 
 ghost use Rattle.std.specs.Prelude.{[], map, slice_index_or};
 ghost use Rattle.sheet.specs.Model.{asking};
-ghost use Rattle.ask_history.specs.declared.sheet.Sheet.TheVariants.{Set};
+ghost use Rattle.ask_history.specs.declared.any_sheet.Sheet.TheVariants.{Set};
 ghost use Rattle.ask_history.specs.Data.{question_of};
 ghost use Rattle.ask_history.specs.Law.{CallLaw};
 

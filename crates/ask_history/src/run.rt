@@ -3,9 +3,9 @@
 ghost use Rattle.std.specs.Prelude.{map};
 ghost use Rattle.ask_history.specs.Law.{calls_run, EntryLaw};
 
+use crate::any_sheet::Sheet;
 use crate::call::SheetCall;
 use crate::outcome::Outcome;
-use crate::sheet::Sheet;
 use batch::Batch;
 use grid::Grid;
 

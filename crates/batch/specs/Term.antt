@@ -1,7 +1,7 @@
 -- What a batch means: a list of terms, each with its kind, its weights and its digits.
 use Rattle.std.specs.Prelude.{ℕ, ◌*◌, ◌/◌, ◌%◌, ◌^◌, ◌≤◌, Bool, true, false, List, length, ℤ, pos, ◌+ℤ◌, ◌*ℤ◌, neg_ℤ, ◌≤ℤ◌, count_by}
 use Rattle.std.specs.Float.Ieee.{size}
-use Rattle.std.specs.List.{AllByRecursion as All}
+use Rattle.std.specs.List.{AllByRecursion}
 use Rattle.exact.specs.Integers.{gap}
 
 -- one term; the Bool says whether it is negative, and a regular term is m * 2 ^ q
@@ -76,7 +76,7 @@ Limited (regular s m q) = RegularLimits m q
 -- a list of terms that can be a batch
 pub record Batchable (ts : List Term) : Type 0 where
   pub few : length ts ≤ most_terms
-  pub each_limited : All Limited ts
+  pub each_limited : AllByRecursion Limited ts
 
 -- how many of the terms are regular
 abbrev pub regular_terms : List Term → ℕ

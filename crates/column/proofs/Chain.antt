@@ -3,7 +3,7 @@ use Rattle.std.proofs.Common.{◌≡◌, ℕ, ◌<◌, cond, List, [], ◌∷◌
 use lib.Signed.{lt_z}
 use borrow.Author.Differences.{ints}
 use Rattle.std.specs.Int.{int_max}
-use Rattle.std.specs.List.{AllByRecursion as All}
+use Rattle.std.specs.List.{AllByRecursion}
 use Rattle.std.proofs.lemmas.Int.{by_lt_z, clamps}
 use Rattle.exact.proofs.BitLength.{size_pos}
 use Rattle.batch.specs.Term.{column_weight}
@@ -43,7 +43,7 @@ part_top p c h none' =
     omega (arith, ints)
 
 -- ---- all parts
-clear_of : (ps : List Part) (c d : ℤ) → Regular ps → d <ℤ c → ((k : ℤ) → Occupied ps k → d <ℤ k → k <ℤ c → ⊥) → All (Clear (column_weight c) (column_weight (d +ℤ pos 1))) ps
+clear_of : (ps : List Part) (c d : ℤ) → Regular ps → d <ℤ c → ((k : ℤ) → Occupied ps k → d <ℤ k → k <ℤ c → ⊥) → AllByRecursion (Clear (column_weight c) (column_weight (d +ℤ pos 1))) ps
 clear_of [] c d s g none' = tt
 clear_of (p ∷ ps) c d (h, s) g none' = (part_clear p c d h g (λ k o. none' k (inl o)), clear_of ps c d s g (λ k o. none' k (inr o)))
 
@@ -51,7 +51,7 @@ none_of : (ps : List Part) (c : ℤ) → Regular ps → ((k : ℤ) → Occupied 
 none_of [] c s none' = refl
 none_of (p ∷ ps) c (h, s) none' = let a = part_none p c h (λ k o. none' k (inl o)) in let b = none_of ps c s (λ k o. none' k (inr o)) in omega arith
 
-top_of : (ps : List Part) (c : ℤ) → Regular ps → ((k : ℤ) → Occupied ps k → k ≤ℤ c) → All (λ p. top p ≤ℤ column_weight (c +ℤ pos 1)) ps
+top_of : (ps : List Part) (c : ℤ) → Regular ps → ((k : ℤ) → Occupied ps k → k ≤ℤ c) → AllByRecursion (λ p. top p ≤ℤ column_weight (c +ℤ pos 1)) ps
 top_of [] c s none' = tt
 top_of (p ∷ ps) c (h, s) none' = (part_top p c h (λ k o. none' k (inl o)), top_of ps c s (λ k o. none' k (inr o)))
 
@@ -67,19 +67,19 @@ Final ps c (d ∷ ds) = d <ℤ c
 
 pub record Link (ps : List Part) (c : ℤ) (cs : List ℤ) : Type 0 where
   pub ordered : reach c cs ≤ℤ column_weight c
-  pub clear : All (Clear (column_weight c) (reach c cs)) ps
+  pub clear : AllByRecursion (Clear (column_weight c) (reach c cs)) ps
   pub final : Final ps c cs
 
 abbrev pub Chain : List Part → List ℤ → Type 0
 Chain ps [] = Unit {0}
 Chain ps (c ∷ cs) = Link ps c cs × Chain ps cs
 
-pub in_below : (c : ℤ) (cs : List ℤ) (k : ℤ) → All (λ d. d <ℤ c) cs → Listed cs k → k <ℤ c
+pub in_below : (c : ℤ) (cs : List ℤ) (k : ℤ) → AllByRecursion (λ d. d <ℤ c) cs → Listed cs k → k <ℤ c
 in_below c [] k a i = elim i [ ]
 in_below c (d ∷ ds) k (l, a) (inl e) = omega (arith, ints)
 in_below c (d ∷ ds) k (l, a) (inr i) = in_below c ds k a i
 
-pub in_upto : (c : ℤ) (cs : List ℤ) (k : ℤ) → All (λ d. d <ℤ c) cs → Listed (c ∷ cs) k → k ≤ℤ c
+pub in_upto : (c : ℤ) (cs : List ℤ) (k : ℤ) → AllByRecursion (λ d. d <ℤ c) cs → Listed (c ∷ cs) k → k ≤ℤ c
 in_upto c cs k a (inl e) = omega (arith, ints)
 in_upto c cs k a (inr i) = let l = in_below c cs k a i in omega (arith, ints)
 
@@ -102,7 +102,7 @@ chain_from ps s c (b ∷ bs) ((l, a), d) v = (
   chain_from ps s b bs d (λ k o h. in_rest b bs k h (v k o (omega (arith, ints)))),
 )
 
-pub first_top : (ps : List Part) → Regular ps → (c : ℤ) (cs : List ℤ) → columns ps ≡ c ∷ cs → All (λ p. top p ≤ℤ column_weight (c +ℤ pos 1)) ps
+pub first_top : (ps : List Part) → Regular ps → (c : ℤ) (cs : List ℤ) → columns ps ≡ c ∷ cs → AllByRecursion (λ p. top p ≤ℤ column_weight (c +ℤ pos 1)) ps
 first_top ps s c cs e =
     let d = subst Falling e (columns_fall ps) in
     top_of ps c s (λ k o. in_upto c cs k d.0 (subst (λ (l : List ℤ). Listed l k) e (occupied_columns ps k o)))

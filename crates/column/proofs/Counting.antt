@@ -1,6 +1,6 @@
 -- The list of the counted terms grows with each place as the parts do.
 use Rattle.std.proofs.Common.{◌≡◌, ℕ, suc, ◌+◌, ◌<◌, Bool, true, false, not, List, [], ◌∷◌, ◌++◌, map, length, get_or, take, pos, Some, None, Option, sym, refl, ap, ◌∙◌, ap₂, append_assoc, append-nil, arith}
-use Rattle.std.specs.List.{AllByRecursion as All}
+use Rattle.std.specs.List.{AllByRecursion}
 use Rattle.std.proofs.ByRecursion.{All-map, All-append}
 use Rattle.std.proofs.lemmas.List.{take_more, get_or-map, map-append, length-take-le}
 use Rattle.exact.proofs.BitLength.{pos_of_size}
@@ -116,6 +116,6 @@ counted_regular Out t l = tt
 counted_regular In t l = regular_not_zero t l
 counted_regular Turned t l = All-map (λ p. 0 < p.significand) turned (regular_part t) (regular_not_zero t l)
 
-pub parts_regular : (marks : ℕ → Mark) (i : ℕ) (ts : List Term) → All Limited ts → Regular (parts_from marks i ts)
+pub parts_regular : (marks : ℕ → Mark) (i : ℕ) (ts : List Term) → AllByRecursion Limited ts → Regular (parts_from marks i ts)
 parts_regular marks i [] l = tt
 parts_regular marks i (t ∷ ts) (h, l) = All-append (λ p. 0 < p.significand) (counted_part (marks i) t) (parts_from marks (suc i) ts) (counted_regular (marks i) t h) (parts_regular marks (suc i) ts l)

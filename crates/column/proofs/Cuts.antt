@@ -2,7 +2,7 @@
 use Rattle.std.proofs.Common.{◌≡◌, ℕ, ◌+◌, ◌-◌, ◌*◌, ◌%◌, ◌^◌, ◌<◌, ◌≤◌, Bool, true, false, cond, List, [], ◌∷◌, map, ℤ, pos, ◌+ℤ◌, neg_ℤ, ◌≤ℤ◌, ◌<ℤ◌, sym, refl, ap, ◌∙◌, subst, ap₂, mod-lt, mod-eq_of_lt, mul-le-mul_left, arith, pow_pos}
 use lib.Signed.{lt_z}
 use borrow.Author.Differences.{ints}
-use Rattle.std.specs.List.{AllByRecursion as All}
+use Rattle.std.specs.List.{AllByRecursion}
 use Rattle.std.proofs.ByRecursion.{All-weaker}
 use Rattle.exact.specs.Integers.{signed, gap, lesser, scale}
 use Rattle.exact.specs.Dyadic.{Dyadic, dyadic, at, plus, ◌≤ᴰ◌}
@@ -17,7 +17,7 @@ use Rattle.column.proofs.Units.{units_split, units_whole, units_none, units_smal
 use Rattle.column.proofs.SignedSums.{all_of, sum_plus, sum_scale, sum_same, sum_within}
 
 -- ---- from one weight to a lower one
-pub upper_clear : (ps : List Part) (w v z : ℤ) → z ≤ℤ v → v ≤ℤ w → All (Clear w v) ps
+pub upper_clear : (ps : List Part) (w v z : ℤ) → z ≤ℤ v → v ≤ℤ w → AllByRecursion (Clear w v) ps
     → signed_sum (λ p. units p z) ps ≡ scale (signed_sum (λ p. units p w) ps) (gap w z) +ℤ signed_sum (λ p. units p z % 2 ^ gap v z) ps
 upper_clear ps w v z h g c =
     let d = gap w z in
@@ -36,14 +36,14 @@ pub rest_within : (ps : List Part) (w v z : ℤ) → z ≤ℤ v → v ≤ℤ w
 rest_within ps w v z h g = sum_within (λ p. units p z % 2 ^ gap v z) (λ p. lt_z p.weight w) (2 ^ gap v z - 1) ps (all_of (λ p. rest_by p w v z h g (lt_z p.weight w) refl) ps)
 
 -- ---- columns
-pub next_sum : (ps : List Part) (c d : ℤ) → d <ℤ c → All (Clear (column_weight c) (column_weight (d +ℤ pos 1))) ps
+pub next_sum : (ps : List Part) (c d : ℤ) → d <ℤ c → AllByRecursion (Clear (column_weight c) (column_weight (d +ℤ pos 1))) ps
     → (cut_sum ps (column_weight d)).count ≡ scale (cut_sum ps (column_weight c)).count (gap (column_weight c) (column_weight d)) +ℤ column_total ps d
 next_sum ps c d h k =
     let e : gap (column_weight (d +ℤ pos 1)) (column_weight d) ≡ 32 = omega (arith, ints) in
     subst (λ (g : ℕ). (cut_sum ps (column_weight d)).count ≡ scale (cut_sum ps (column_weight c)).count (gap (column_weight c) (column_weight d)) +ℤ signed_sum (λ p. units p (column_weight d) % 2 ^ g) ps) e
     (upper_clear ps (column_weight c) (column_weight (d +ℤ pos 1)) (column_weight d) (omega (arith, ints)) (omega (arith, ints)) k)
 
-pub first_sum : (ps : List Part) (c : ℤ) → All (λ p. top p ≤ℤ column_weight (c +ℤ pos 1)) ps → (cut_sum ps (column_weight c)).count ≡ column_total ps c
+pub first_sum : (ps : List Part) (c : ℤ) → AllByRecursion (λ p. top p ≤ℤ column_weight (c +ℤ pos 1)) ps → (cut_sum ps (column_weight c)).count ≡ column_total ps c
 first_sum ps c h =
     let e : gap (column_weight (c +ℤ pos 1)) (column_weight c) ≡ 32 = omega (arith, ints) in
     sum_same (λ p. units p (column_weight c)) (λ p. digit p c) ps
@@ -84,7 +84,7 @@ at_lower ps w v z h g =
 pub at_upper : (ps : List Part) (w v z : ℤ) → z ≤ℤ v → v ≤ℤ w → at z (upper_at ps w v) ≡ scale (signed_sum (λ p. units p w) ps) (gap w z) +ℤ pos (reaching_below ps w * 2 ^ gap v z)
 at_upper ps w v z h g = at_plus z (cut_sum ps w) (dyadic (pos (reaching_below ps w)) v) (omega (arith, ints)) h
 
-module _ (ps : List Part) (w v : ℤ) (g : v ≤ℤ w) (c : All (Clear w v) ps) where
+module _ (ps : List Part) (w v : ℤ) (g : v ≤ℤ w) (c : AllByRecursion (Clear w v) ps) where
   pub lower_below : lower_at ps w v ≤ᴰ exact_sum ps
   lower_below =
       let z = lesser v (exact_sum ps).weight in

@@ -3,7 +3,7 @@ use Rattle.std.proofs.Common.{◌≡◌, ℕ, ◌+◌, ◌<◌, ◌≤◌, ◌�
 use lib.Signed.{lt_z}
 use borrow.Author.Differences.{ints}
 use Rattle.std.specs.Int.{int_max, int_min}
-use Rattle.std.specs.List.{AllByRecursion as All}
+use Rattle.std.specs.List.{AllByRecursion}
 use Rattle.std.proofs.lemmas.List.{drop_more, drop_all}
 use Rattle.std.proofs.lemmas.Int.{by_lt_z, clamps}
 use Rattle.std.proofs.lemmas.Bool.{cond_both}
@@ -78,7 +78,7 @@ module _ (b : ℤ) where
       (highest_same (Listed (columns ps)) (Occupied ps) (first_below b (columns ps)) (columns_occupied ps) (occupied_columns ps) (highest_listed (columns ps) (columns_fall ps)))
 
 -- where all lie below the limit, the first below it is the first
-pub first_is : (b : ℤ) (cs : List ℤ) → All (λ c. c <ℤ b) cs → first_below b cs ≡ first_column cs
+pub first_is : (b : ℤ) (cs : List ℤ) → AllByRecursion (λ c. c <ℤ b) cs → first_below b cs ≡ first_column cs
 first_is b [] h = refl
 first_is b (c ∷ cs) h = cond_both (lt_z c b) (Some c) (first_below b cs) (λ (r : Option ℤ). r ≡ Some c) (λ e. refl) (λ e. absurd (omega (arith, ints, h.0)))
 

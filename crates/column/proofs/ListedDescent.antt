@@ -1,7 +1,7 @@
 -- The way down the columns of the listed terms.
 use Rattle.std.proofs.Common.{◌≡◌, ℕ, zero, suc, ◌+◌, ◌-◌, ◌<◌, ◌≤◌, List, [], ◌∷◌, map, take, drop, ℤ, pos, ◌≤ℤ◌, ◌<ℤ◌, None, Option, sym, refl, ◌∙◌, subst, inl, inr, arith}
 use borrow.Author.Differences.{ints}
-use Rattle.std.specs.List.{AllByRecursion as All}
+use Rattle.std.specs.List.{AllByRecursion}
 use Rattle.batch.specs.Term.{Term, not_a_number, infinite, signed_zero, regular, top_weight, farthest_top, Limited, Batchable}
 use Rattle.batch.specs.Lookup.{low_of_term, top_of_term}
 use Rattle.column.specs.declared.counted.CountedTerm.{CountedTerm}
@@ -43,17 +43,17 @@ top_limited (infinite s) l = omega (arith, ints)
 top_limited (signed_zero s) l = omega (arith, ints)
 top_limited (regular s m q) l = l.not_above
 
-top_at_limited : (ts : List Term) → All Limited ts → (i : ℕ) → top_of_term ts i ≤ℤ pos farthest_top
+top_at_limited : (ts : List Term) → AllByRecursion Limited ts → (i : ℕ) → top_of_term ts i ≤ℤ pos farthest_top
 top_at_limited [] l i = omega (arith, ints)
 top_at_limited (t ∷ ts) (h, l) zero = top_limited t h
 top_at_limited (t ∷ ts) (h, l) (suc i) = top_at_limited ts l i
 
-occupied_limited : (ts : List Term) → All Limited ts → (xs : List CountedTerm) (k : ℤ) → Occupied (map (listed_part ts) xs) k → k <ℤ pos 2147483647
+occupied_limited : (ts : List Term) → AllByRecursion Limited ts → (xs : List CountedTerm) (k : ℤ) → Occupied (map (listed_part ts) xs) k → k <ℤ pos 2147483647
 occupied_limited ts l [] k o = elim o [ ]
 occupied_limited ts l (x ∷ xs) k (inl o) = omega (arith, ints, o, listed_top ts x, top_at_limited ts l x.place)
 occupied_limited ts l (x ∷ xs) k (inr o) = occupied_limited ts l xs k o
 
-all_listed : (P : ℤ → Type 0) (cs : List ℤ) → ((k : ℤ) → Listed cs k → P k) → All P cs
+all_listed : (P : ℤ → Type 0) (cs : List ℤ) → ((k : ℤ) → Listed cs k → P k) → AllByRecursion P cs
 all_listed P [] f = tt
 all_listed P (c ∷ cs) f = (f c (inl refl), all_listed P cs (λ k i. f k (inr i)))
 

@@ -2,7 +2,7 @@
 use Rattle.std.proofs.Common.{◌≡◌, ℕ, zero, suc, cond, ◌⊎◌, ◌↔◌, List, [], ◌∷◌, ℤ, pos, negsuc, ◌+ℤ◌, ◌-ℤ◌, ◌≤ℤ◌, ◌<ℤ◌, ◌∙◌, inl, inr, arith}
 use lib.Signed.{lt_z}
 use borrow.Author.Differences.{ints}
-use Rattle.std.specs.List.{AllByRecursion as All}
+use Rattle.std.specs.List.{AllByRecursion}
 use Rattle.std.proofs.lemmas.Bool.{cond_both}
 use Rattle.std.proofs.lemmas.Int.{by_lt_z}
 use Rattle.std.proofs.ByRecursion.{All-weaker}
@@ -37,12 +37,12 @@ in_to k (c ∷ cs) x =
     same q (inl e) = inl (e ∙ q)
     same q (inr i) = i
 
-all_with : (P : ℤ → Type 0) (k : ℤ) (cs : List ℤ) → P k → All P cs → All P (with_column k cs)
+all_with : (P : ℤ → Type 0) (k : ℤ) (cs : List ℤ) → P k → AllByRecursion P cs → AllByRecursion P (with_column k cs)
 all_with P k [] h a = (h, a)
 all_with P k (c ∷ cs) h a =
-    cond_both (lt_z c k) (k ∷ c ∷ cs) (cond (lt_z k c) (c ∷ with_column k cs) (c ∷ cs)) (All P)
+    cond_both (lt_z c k) (k ∷ c ∷ cs) (cond (lt_z k c) (c ∷ with_column k cs) (c ∷ cs)) (AllByRecursion P)
     (λ e. (h, a))
-    (λ e. cond_both (lt_z k c) (c ∷ with_column k cs) (c ∷ cs) (All P) (λ f. (a.0, all_with P k cs h a.1)) (λ f. a))
+    (λ e. cond_both (lt_z k c) (c ∷ with_column k cs) (c ∷ cs) (AllByRecursion P) (λ f. (a.0, all_with P k cs h a.1)) (λ f. a))
 
 falling_with : (k : ℤ) (cs : List ℤ) → Falling cs → Falling (with_column k cs)
 falling_with k [] d = (tt, tt)

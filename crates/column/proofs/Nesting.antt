@@ -2,7 +2,7 @@
 use Rattle.std.proofs.Common.{◌≡◌, ◌+◌, ◌-◌, ◌*◌, ◌%◌, ◌^◌, ◌≤◌, cond, List, [], ◌∷◌, ℤ, pos, ◌+ℤ◌, neg_ℤ, ◌≤ℤ◌, ap, ◌∙◌, arith}
 use lib.Signed.{lt_z}
 use borrow.Author.Differences.{ints}
-use Rattle.std.specs.List.{AllByRecursion as All}
+use Rattle.std.specs.List.{AllByRecursion}
 use Rattle.exact.specs.Integers.{gap, scale}
 use Rattle.exact.specs.Dyadic.{◌≤ᴰ◌}
 use Rattle.exact.proofs.Multiples.{room}
@@ -20,7 +20,7 @@ pub reaching_below_mono : (ps : List Part) (w v : ℤ) → v ≤ℤ w → reachi
 reaching_below_mono [] w v h = omega arith
 reaching_below_mono (p ∷ ps) w v h = let a = one_more p.weight w v h in let b = reaching_below_mono ps w v h in omega arith
 
-module _ (ps : List Part) (w v x y : ℤ) (a : v ≤ℤ w) (b : x ≤ℤ v) (c : y ≤ℤ x) (k : All (Clear w v) ps) where
+module _ (ps : List Part) (w v x y : ℤ) (a : v ≤ℤ w) (b : x ≤ℤ v) (c : y ≤ℤ x) (k : AllByRecursion (Clear w v) ps) where
   U : ℤ
   U = signed_sum (λ p. units p w) ps
 

@@ -2,7 +2,7 @@
 use Rattle.std.proofs.Common.{◌≡◌, ℕ, suc, ◌+◌, ◌-◌, ◌*◌, ◌^◌, ◌≤◌, true, List, [], ◌∷◌, ◌++◌, map, length, ℤ, pos, ◌+ℤ◌, neg_ℤ, nat_abs, ◌≤ℤ◌, ◌<ℤ◌, sym, refl, ◌∙◌, subst, inl, inr, mul-le-mul_right, mul-le-mul_left, arith}
 use lib.Signed.{lt_z}
 use borrow.Author.Differences.{ints}
-use Rattle.std.specs.List.{AllByRecursion as All}
+use Rattle.std.specs.List.{AllByRecursion}
 use Rattle.std.proofs.ByRecursion.{All-weaker, All-map, All-append}
 use Rattle.std.proofs.lemmas.List.{length-append, length-map}
 use Rattle.exact.specs.Integers.{gap}
@@ -29,7 +29,7 @@ use Rattle.column.proofs.Laws.{lower_is, upper_is}
 use Rattle.column.proofs.Counting.{parts_regular}
 
 -- ---- how large a sum of few parts can be
-cut_within : (ps : List Part) (t w : ℤ) → w ≤ℤ t → All (λ p. top p ≤ℤ t) ps
+cut_within : (ps : List Part) (t w : ℤ) → w ≤ℤ t → AllByRecursion (λ p. top p ≤ℤ t) ps
     → (neg_ℤ (pos (length ps * (2 ^ gap t w - 1))) ≤ℤ (cut_sum ps w).count) × ((cut_sum ps w).count ≤ℤ pos (length ps * (2 ^ gap t w - 1)))
 cut_within ps t w h a =
     let b = 2 ^ gap t w - 1 in
@@ -37,7 +37,7 @@ cut_within ps t w h a =
     let m = mul-le-mul_right b (tally_le (λ p. true) ps) in
     (omega (arith, ints, r), omega (arith, ints, r))
 
-module _ (ps : List Part) (w v t : ℤ) (g : v ≤ℤ w) (h : w ≤ℤ t) (a : All (λ p. top p ≤ℤ t) ps) (l : length ps ≤ 1024) where
+module _ (ps : List Part) (w v t : ℤ) (g : v ≤ℤ w) (h : w ≤ℤ t) (a : AllByRecursion (λ p. top p ≤ℤ t) ps) (l : length ps ≤ 1024) where
   sizes : (z : ℤ) → z ≤ℤ v → length ps * (2 ^ gap t w - 1) * 2 ^ gap w z + reaching_below ps w * 2 ^ gap v z ≤ length ps * 2 ^ gap t z
   sizes z k =
       let e : gap t z ≡ gap t w + gap w z = omega (arith, ints) in
@@ -65,7 +65,7 @@ pub record Ranged (l t : ℤ) (p : Part) : Type 0 where
   pub from : l ≤ℤ low p
   pub upto : top p ≤ℤ t
 
-occupied_in : (ps : List Part) (l t k : ℤ) → All (Ranged l t) ps → Occupied ps k → (l <ℤ column_weight (k +ℤ pos 1)) × (column_weight k <ℤ t)
+occupied_in : (ps : List Part) (l t k : ℤ) → AllByRecursion (Ranged l t) ps → Occupied ps k → (l <ℤ column_weight (k +ℤ pos 1)) × (column_weight k <ℤ t)
 occupied_in [] l t k a o = absurd o
 occupied_in (p ∷ ps) l t k (r, a) (inl o) = (omega (arith, ints), omega (arith, ints))
 occupied_in (p ∷ ps) l t k (r, a) (inr o) = occupied_in ps l t k a o
@@ -78,7 +78,7 @@ listed_occupied ps cs (above, e) k i = columns_occupied ps k (subst (λ (l : Lis
     further (c ∷ above) = inr (further above)
 
 -- nothing that a part reaches is below l - 31
-reach_from : (ps : List Part) (l t : ℤ) → All (Ranged l t) ps → (c : ℤ) (cs : List ℤ) → DownFrom ps (c ∷ cs) → l ≤ℤ (reach c cs +ℤ pos 31)
+reach_from : (ps : List Part) (l t : ℤ) → AllByRecursion (Ranged l t) ps → (c : ℤ) (cs : List ℤ) → DownFrom ps (c ∷ cs) → l ≤ℤ (reach c cs +ℤ pos 31)
 reach_from ps l t a c [] f = let o = occupied_in ps l t c a (listed_occupied ps (c ∷ []) f c (inl refl)) in omega (arith, ints)
 reach_from ps l t a c (d ∷ ds) f = let o = occupied_in ps l t d a (listed_occupied ps (c ∷ d ∷ ds) f d (inr (inl refl))) in omega (arith, ints)
 
@@ -87,13 +87,13 @@ unfolding total
 weight_upto [] = omega (arith, ints)
 weight_upto (x ∷ xs) = let i = weight_upto xs in omega (arith, ints)
 
-weights_from : (ps : List Part) (l t z : ℤ) → z ≤ℤ l → z ≤ℤ pos 0 → All (Ranged l t) ps → BelowAll z (map number ps)
+weights_from : (ps : List Part) (l t z : ℤ) → z ≤ℤ l → z ≤ℤ pos 0 → AllByRecursion (Ranged l t) ps → BelowAll z (map number ps)
 weights_from [] l t z h g a = g
 weights_from (p ∷ ps) l t z h g (r, a) = (omega (arith, ints), weights_from ps l t z h g a)
 
 -- with room for 31 weights below and 11 above
-module _ (ps : List Part) (s : Regular ps) (n : length ps ≤ 1024) (l t : ℤ) (a : All (Ranged l t) ps) (L : neg_ℤ (pos 1999999969) ≤ℤ l) (T : t ≤ℤ pos 1999999989) where
-  tops : (m : ℤ) → t ≤ℤ m → All (λ p. top p ≤ℤ m) ps
+module _ (ps : List Part) (s : Regular ps) (n : length ps ≤ 1024) (l t : ℤ) (a : AllByRecursion (Ranged l t) ps) (L : neg_ℤ (pos 1999999969) ≤ℤ l) (T : t ≤ℤ pos 1999999989) where
+  tops : (m : ℤ) → t ≤ℤ m → AllByRecursion (λ p. top p ≤ℤ m) ps
   tops m h = All-weaker (Ranged l t) (λ p. top p ≤ℤ m) (λ p r. omega (arith, ints, r.upto)) ps a
 
   end_in : (c : ℤ) (cs : List ℤ) → DownFrom ps (c ∷ cs) → (b : ℤ) → nat_abs b ≤ reaching_below ps (column_weight c) → InRange (exponent (plus (cut_sum ps (column_weight c)) (dyadic b (reach c cs))))
@@ -153,20 +153,20 @@ lowest_low = neg_ℤ (pos 1000004096)
 abbrev pub highest_top : ℤ
 highest_top = pos 1000000000
 
-regular_ranged : (t : Term) → Limited t → All (Ranged lowest_low highest_top) (regular_part t)
+regular_ranged : (t : Term) → Limited t → AllByRecursion (Ranged lowest_low highest_top) (regular_part t)
 regular_ranged not_a_number h = tt
 regular_ranged (infinite s) h = tt
 regular_ranged (signed_zero s) h = tt
 regular_ranged (regular s m q) h = (record { from = omega (arith, ints, h.few_digits, h.not_below); upto = h.not_above }, tt)
 
-counted_ranged : (k : Mark) (t : Term) → Limited t → All (Ranged lowest_low highest_top) (counted_part k t)
+counted_ranged : (k : Mark) (t : Term) → Limited t → AllByRecursion (Ranged lowest_low highest_top) (counted_part k t)
 counted_ranged Out t h = tt
 counted_ranged In t h = regular_ranged t h
 counted_ranged Turned t h =
     All-map (Ranged lowest_low highest_top) turned (regular_part t)
     (All-weaker (Ranged lowest_low highest_top) (λ p. Ranged lowest_low highest_top (turned p)) (λ p r. record { from = r.from; upto = r.upto }) (regular_part t) (regular_ranged t h))
 
-parts_ranged : (marks : ℕ → Mark) (i : ℕ) (ts : List Term) → All Limited ts → All (Ranged lowest_low highest_top) (parts_from marks i ts)
+parts_ranged : (marks : ℕ → Mark) (i : ℕ) (ts : List Term) → AllByRecursion Limited ts → AllByRecursion (Ranged lowest_low highest_top) (parts_from marks i ts)
 parts_ranged marks i [] l = tt
 parts_ranged marks i (t ∷ ts) (h, l) =
     All-append (Ranged lowest_low highest_top) (counted_part (marks i) t) (parts_from marks (suc i) ts) (counted_ranged (marks i) t h) (parts_ranged marks (suc i) ts l)

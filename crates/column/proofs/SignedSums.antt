@@ -1,7 +1,7 @@
 -- Sums over the parts, with their signs.
 use Rattle.std.proofs.Common.{◌≡◌, ℕ, ◌+◌, ◌*◌, ◌^◌, ◌≤◌, Bool, cond, List, [], ◌∷◌, length, pos, ◌+ℤ◌, neg_ℤ, ◌≤ℤ◌, sym, refl, ap, ◌∙◌, ap₂, arith}
 use borrow.Author.Differences.{ints}
-use Rattle.std.specs.List.{AllByRecursion as All}
+use Rattle.std.specs.List.{AllByRecursion}
 use Rattle.exact.specs.Integers.{signed, scale}
 use Rattle.exact.proofs.Integers.{signed_plus, signed_within}
 use Rattle.exact.proofs.Scaling.{scale_plus, scale_signed}
@@ -19,12 +19,12 @@ sum_scale f k [] = omega (arith, ints)
 sum_scale f k (p ∷ ps) =
     ap₂ ◌+ℤ◌ (sym (scale_signed p.negative (f p) k)) (sum_scale f k ps) ∙ sym (scale_plus (signed p.negative (f p)) (signed_sum f ps) k)
 
-pub sum_same : (f g : Part → ℕ) (ps : List Part) → All (λ p. f p ≡ g p) ps → signed_sum f ps ≡ signed_sum g ps
+pub sum_same : (f g : Part → ℕ) (ps : List Part) → AllByRecursion (λ p. f p ≡ g p) ps → signed_sum f ps ≡ signed_sum g ps
 sum_same f g [] h = refl
 sum_same f g (p ∷ ps) (e, h) = ap₂ ◌+ℤ◌ (ap (signed p.negative) e) (sum_same f g ps h)
 
 -- at most b for each part that passes, and nothing for the others
-pub sum_within : (f : Part → ℕ) (t : Part → Bool) (b : ℕ) (ps : List Part) → All (λ p. f p ≤ cond (t p) 1 0 * b) ps
+pub sum_within : (f : Part → ℕ) (t : Part → Bool) (b : ℕ) (ps : List Part) → AllByRecursion (λ p. f p ≤ cond (t p) 1 0 * b) ps
     → (neg_ℤ (pos (tally t ps * b)) ≤ℤ signed_sum f ps) × (signed_sum f ps ≤ℤ pos (tally t ps * b))
 sum_within f t b [] h = (omega (arith, ints), omega (arith, ints))
 sum_within f t b (p ∷ ps) (l, h) =
@@ -36,6 +36,6 @@ pub tally_le : (t : Part → Bool) (ps : List Part) → tally t ps ≤ length ps
 tally_le t [] = omega arith
 tally_le t (p ∷ ps) = let i = tally_le t ps in let b : cond (t p) 1 0 ≤ 1 = grind arith in omega arith
 
-pub all_of : {P : Part → Type 0} → ((p : Part) → P p) → (ps : List Part) → All P ps
+pub all_of : {P : Part → Type 0} → ((p : Part) → P p) → (ps : List Part) → AllByRecursion P ps
 all_of f [] = tt
 all_of f (p ∷ ps) = (f p, all_of f ps)

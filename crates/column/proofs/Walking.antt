@@ -2,7 +2,7 @@
 use Rattle.std.proofs.Common.{◌≡◌, false, List, [], ◌∷◌, ◌++◌, ℤ, ◌<ℤ◌, Some, Option, sym, refl, ap, ◌∙◌, subst, ⊎_elim, arith}
 use lib.Signed.{lt_z}
 use borrow.Author.Differences.{ints}
-use Rattle.std.specs.List.{AllByRecursion as All}
+use Rattle.std.specs.List.{AllByRecursion}
 use Rattle.std.proofs.lemmas.Bool.{cond_both, cases_Bool}
 use Rattle.exact.proofs.Order.{≤ᴰ_trans, ≈ᴰ_trans}
 use Rattle.grid.specs.Rounding.{rounded, Answer, Alike}
@@ -28,7 +28,7 @@ from_next ps c cs (above, e) = (above ++ (c ∷ []), e ∙ moved above)
     moved (x ∷ above) = ap (λ (l : List ℤ). x ∷ l) (moved above)
 
 -- what stands above a column in a falling list lies above it
-above_higher : (x c : ℤ) (above cs : List ℤ) → All (λ d. d <ℤ x) (above ++ (c ∷ cs)) → c <ℤ x
+above_higher : (x c : ℤ) (above cs : List ℤ) → AllByRecursion (λ d. d <ℤ x) (above ++ (c ∷ cs)) → c <ℤ x
 above_higher x c [] cs a = a.0
 above_higher x c (y ∷ above) cs a = above_higher x c above cs a.1
 

@@ -2,7 +2,7 @@
 use Rattle.std.specs.Prelude.{◌≡◌, ℕ, zero, suc, cond, ◌⊎◌, List, [], ◌∷◌, ℤ, pos, ◌+ℤ◌, ◌-ℤ◌, ◌<ℤ◌, int_lt}
 use Rattle.std.specs.Int.Signed.{shr_z}
 use Rattle.std.specs.Float.Ieee.{size}
-use Rattle.std.specs.List.{AllByRecursion as All}
+use Rattle.std.specs.List.{AllByRecursion}
 use Rattle.exact.specs.Integers.{gap}
 use Rattle.batch.specs.Term.{column_weight, digit_at}
 use Rattle.column.specs.Parts.{Part, as_term, low, top, signed_sum}
@@ -56,7 +56,7 @@ columns (p ∷ ps) = with_columns (column_of (low p)) (height p) (columns ps)
 -- the list falls from each column to the next
 abbrev pub Falling : List ℤ → Type 0
 Falling [] = Unit {0}
-Falling (c ∷ cs) = All (λ d. d <ℤ c) cs × Falling cs
+Falling (c ∷ cs) = AllByRecursion (λ d. d <ℤ c) cs × Falling cs
 
 -- the column k is listed
 abbrev pub Listed : List ℤ → ℤ → Type 0

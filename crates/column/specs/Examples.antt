@@ -1,6 +1,6 @@
 -- Worked examples of depths, which the checker computes.
 use Rattle.std.specs.Prelude.{◌≡◌, ℕ, zero, suc, true, false, List, [], ◌∷◌, ℤ, pos, neg_ℤ}
-use Rattle.std.specs.List.{AllByRecursion as All}
+use Rattle.std.specs.List.{AllByRecursion}
 use Rattle.grid.specs.Spacing.{free}
 use Rattle.grid.specs.Rounding.{Mode, nearest, downward}
 use Rattle.batch.specs.Term.{regular, not_a_number}
@@ -46,4 +46,4 @@ abbrev pub Holds : Example → Type 0
 Holds x = (columns x.parts ≡ x.occupied) × (depth (free x.digits) x.mode x.parts ≡ x.depth)
 
 abbrev pub ExamplesHold : Type 0
-ExamplesHold = All Holds examples
+ExamplesHold = AllByRecursion Holds examples

@@ -1,6 +1,6 @@
 -- The parts of a sum: signed numbers m * 2 ^ q, their exact sum, and how much of each lies above a weight.
 use Rattle.std.specs.Prelude.{ℕ, ◌+◌, ◌<◌, Bool, cond, List, [], ◌∷◌, map, ℤ, pos, ◌+ℤ◌}
-use Rattle.std.specs.List.{AllByRecursion as All}
+use Rattle.std.specs.List.{AllByRecursion}
 use Rattle.exact.specs.Integers.{signed}
 use Rattle.exact.specs.Dyadic.{Dyadic, dyadic, total}
 use Rattle.batch.specs.Term.{Term, regular, low_weight, top_weight, whole_units}
@@ -17,7 +17,7 @@ part s m q = record { negative = s; significand = m; weight = q }
 
 -- no part is 0
 abbrev pub Regular : List Part → Type 0
-Regular = All (λ p. 0 < p.significand)
+Regular = AllByRecursion (λ p. 0 < p.significand)
 
 -- the regular term that it is
 abbrev pub as_term : Part → Term

@@ -2,7 +2,7 @@
 use Rattle.std.proofs.Common.{ℕ, zero, suc, ◌≤◌, List, [], ◌∷◌, map, take, ℤ, pos, neg_ℤ, ◌≤ℤ◌, inl, inr, arith}
 use lib.Signed.{lt_z}
 use borrow.Author.Differences.{ints}
-use Rattle.std.specs.List.{AllByRecursion as All}
+use Rattle.std.specs.List.{AllByRecursion}
 use Rattle.batch.specs.Term.{Term, not_a_number, infinite, signed_zero, regular, low_weight, top_weight, farthest_top, Limited}
 use Rattle.batch.specs.Lookup.{low_of_term, top_of_term}
 use Rattle.column.specs.declared.counted.CountedTerm.{CountedTerm}
@@ -29,12 +29,12 @@ top_limited (infinite s) l = omega (arith, ints)
 top_limited (signed_zero s) l = omega (arith, ints)
 top_limited (regular s m q) l = l.not_above
 
-low_at_limited : (ts : List Term) → All Limited ts → (i : ℕ) → neg_ℤ (pos 1000004096) ≤ℤ low_of_term ts i
+low_at_limited : (ts : List Term) → AllByRecursion Limited ts → (i : ℕ) → neg_ℤ (pos 1000004096) ≤ℤ low_of_term ts i
 low_at_limited [] l i = omega (arith, ints)
 low_at_limited (t ∷ ts) (h, l) zero = low_limited t h
 low_at_limited (t ∷ ts) (h, l) (suc i) = low_at_limited ts l i
 
-top_at_limited : (ts : List Term) → All Limited ts → (i : ℕ) → top_of_term ts i ≤ℤ pos farthest_top
+top_at_limited : (ts : List Term) → AllByRecursion Limited ts → (i : ℕ) → top_of_term ts i ≤ℤ pos farthest_top
 top_at_limited [] l i = omega (arith, ints)
 top_at_limited (t ∷ ts) (h, l) zero = top_limited t h
 top_at_limited (t ∷ ts) (h, l) (suc i) = top_at_limited ts l i
@@ -44,7 +44,7 @@ pub record Near (k : ℤ) : Type 0 where
   pub from : neg_ℤ (pos 60000000) ≤ℤ k
   pub upto : k ≤ℤ pos 60000000
 
-occupied_among : (ts : List Term) → All Limited ts → (xs : List CountedTerm) (k : ℤ) → Occupied (map (listed_part ts) xs) k → Near k
+occupied_among : (ts : List Term) → AllByRecursion Limited ts → (xs : List CountedTerm) (k : ℤ) → Occupied (map (listed_part ts) xs) k → Near k
 occupied_among ts l [] k o = absurd o
 occupied_among ts l (x ∷ xs) k (inl o) = record {
   from = omega (arith, ints, o, listed_low ts x, low_at_limited ts l x.place);
@@ -52,7 +52,7 @@ occupied_among ts l (x ∷ xs) k (inl o) = record {
 }
 occupied_among ts l (x ∷ xs) k (inr o) = occupied_among ts l xs k o
 
-pub occupied_near : (ts : List Term) → All Limited ts → (cs : CountedTerms) (k : ℤ) → Occupied (listed_parts ts cs) k → Near k
+pub occupied_near : (ts : List Term) → AllByRecursion Limited ts → (cs : CountedTerms) (k : ℤ) → Occupied (listed_parts ts cs) k → Near k
 occupied_near ts l cs k o = occupied_among ts l (take cs.len cs.terms) k o
 
 pub few_reach : (ts : List Term) (cs : CountedTerms) (w : ℤ) → reaching_below (listed_parts ts cs) w ≤ 1024

@@ -1,7 +1,7 @@
 -- One turn of the descent through the columns of listed terms, with each number as the code passes it on.
 use Rattle.std.proofs.Common.{◌≡◌, ℕ, ◌^◌, ◌<◌, ◌≤◌, List, ℤ, nat_abs, Some, Option, sym, ap, ◌∙◌, subst, arith, w32, w64, to_z, of_z}
 use borrow.Author.Differences.{ints}
-use Rattle.std.specs.List.{AllByRecursion as All}
+use Rattle.std.specs.List.{AllByRecursion}
 use Rattle.grid.specs.Spacing.{Lawful}
 use Rattle.grid.specs.Rounding.{Mode}
 use Rattle.batch.specs.Term.{Term, Limited, column_weight}
@@ -36,7 +36,7 @@ near_passed k n = omega (arith, ints, n.from, n.upto)
 small_passed : (t : ℤ) → nat_abs t < 2 ^ 42 → total_passed t ≡ t
 small_passed t h = omega (arith, ints)
 
-module _ (ts : List Term) (limited : All Limited ts) (cs : CountedTerms) (u : ℤ → ℤ) (m : Mode) (regular : Regular (listed_parts ts cs)) where
+module _ (ts : List Term) (limited : AllByRecursion Limited ts) (cs : CountedTerms) (u : ℤ → ℤ) (m : Mode) (regular : Regular (listed_parts ts cs)) where
   near : (k : ℤ) → Occupied (listed_parts ts cs) k → Near k
   near = occupied_near ts limited cs
 

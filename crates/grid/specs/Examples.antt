@@ -1,6 +1,6 @@
 -- Worked examples of rounding, which the checker computes.
 use Rattle.std.specs.Prelude.{◌-◌, ◌*◌, ◌^◌, Bool, true, false, List, [], ◌∷◌, ℤ, pos, neg_ℤ}
-use Rattle.std.specs.List.{AllByRecursion as All}
+use Rattle.std.specs.List.{AllByRecursion}
 use Rattle.exact.specs.Dyadic.{Dyadic, dyadic}
 use Rattle.grid.specs.Spacing.{free, floored}
 use Rattle.grid.specs.Rounding.{Mode, nearest, downward, upward, Answer, rounded, Alike}
@@ -41,4 +41,4 @@ abbrev pub Holds : Example → Type 0
 Holds x = Alike (rounded x.spacing x.mode x.number) x.answer
 
 abbrev pub ExamplesHold : Type 0
-ExamplesHold = All Holds examples
+ExamplesHold = AllByRecursion Holds examples

@@ -5,7 +5,7 @@ use Rattle.std.proofs.lemmas.Bool.{cases_eq}
 use Rattle.sheet.specs.Model.{Call, History, undoing}
 use Rattle.history.specs.declared.outcome.Outcome.{Outcome}
 use Rattle.history.specs.declared.outcome.Outcome.TheVariants.{Done}
-use Rattle.history.specs.declared.sheet.Sheet.{Sheet}
+use Rattle.history.specs.declared.any_sheet.Sheet.{Sheet}
 use Rattle.history.specs.Data.{outcome_tells}
 use Rattle.history.specs.Law.{EntryLaw}
 use Rattle.history.specs.Reaches.{Reaches}

@@ -7,8 +7,8 @@ use Rattle.sheet.specs.Reached.{Reached, ReachedSet}
 use Rattle.sheet.specs.Shown.{shown}
 use Rattle.sheet.specs.Undo.{undoes}
 use Rattle.sheet.proofs.Agreeing.{agrees_shows}
-use Rattle.history.specs.declared.sheet.Sheet.{Sheet}
-use Rattle.history.specs.declared.sheet.Sheet.TheVariants.{Open, Set}
+use Rattle.history.specs.declared.any_sheet.Sheet.{Sheet}
+use Rattle.history.specs.declared.any_sheet.Sheet.TheVariants.{Open, Set}
 use Rattle.history.specs.Reaches.{Reaches, shown_on}
 use Rattle.history.specs.Turns.{fits, opens, open_after, fitting}
 use Rattle.history.proofs.Turning.{open_after_push, fitting_push, fitting_skip}

@@ -4,7 +4,7 @@ use Rattle.sheet.specs.Model.{History, undoing, mark_after}
 use Rattle.history.specs.declared.call.SheetCall.{SheetCall}
 use Rattle.history.specs.declared.outcome.Outcome.{Outcome}
 use Rattle.history.specs.declared.outcome.Outcome.TheVariants.{Done}
-use Rattle.history.specs.declared.sheet.Sheet.{Sheet}
+use Rattle.history.specs.declared.any_sheet.Sheet.{Sheet}
 use Rattle.history.specs.Data.{calls_of, outcome_tells}
 use Rattle.history.specs.Reaches.{Reaches, shown_on}
 use Rattle.history.specs.Turns.{told_after, fitting}

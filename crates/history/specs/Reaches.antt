@@ -4,8 +4,8 @@ use Rattle.sheet.specs.Model.{History}
 use Rattle.sheet.specs.Reached.{Reached, ReachedSet}
 use Rattle.sheet.specs.Shown.{shown}
 use Rattle.sheet.specs.declared.mark.Mark.{Mark}
-use Rattle.history.specs.declared.sheet.Sheet.{Sheet}
-use Rattle.history.specs.declared.sheet.Sheet.TheVariants.{Open, Set}
+use Rattle.history.specs.declared.any_sheet.Sheet.{Sheet}
+use Rattle.history.specs.declared.any_sheet.Sheet.TheVariants.{Open, Set}
 use Rattle.history.specs.Turns.{open_after, fitting}
 
 abbrev pub Reaches : History → Sheet → Type 0

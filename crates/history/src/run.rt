@@ -2,9 +2,9 @@
 
 ghost use Rattle.history.specs.Law.{calls_run, EntryLaw};
 
+use crate::any_sheet::Sheet;
 use crate::call::SheetCall;
 use crate::outcome::Outcome;
-use crate::sheet::Sheet;
 
 // Runs the calls on a new sheet, in order, as many as `outcomes` has room for, and writes what each got.
 pub fn run(calls: &[SheetCall], outcomes: &mut [Outcome]) -> Sheet

@@ -1,6 +1,6 @@
 -- The first record with a fault: the steps of the loop that looks for it, and what its outcome tells.
 use Rattle.std.proofs.Common.{◌≡◌, ℕ, suc, ◌+◌, ◌<◌, ◌≤◌, Bool, true, false, cond, ltb, List, [], ◌∷◌, length, get_or, drop, Some, None, Option, sym, refl, ap, ◌∙◌, subst, arith, ltb-false, ltb-true, le-ltb}
-use Rattle.std.specs.List.{AllByRecursion as All}
+use Rattle.std.specs.List.{AllByRecursion}
 use Rattle.std.proofs.lemmas.List.{drop_more}
 use Rattle.batch.specs.Term.{most_terms}
 use Rattle.batch.specs.declared.fault.RecordFault.{RecordFault}
@@ -24,7 +24,7 @@ module _ (pool : List ℕ) (rs : List LimbRecord) (i : ℕ) (d : LimbRecord) (in
 
 -- ---- what the outcome tells, with records counted from k on
 abbrev ToldFrom : List ℕ → List LimbRecord → ℕ → Option BatchFault → Type 0
-ToldFrom pool rs k None = All (λ r. record_fault pool r ≡ None) rs
+ToldFrom pool rs k None = AllByRecursion (λ r. record_fault pool r ≡ None) rs
 ToldFrom pool rs k (Some TooManyTerms) = ⊥
 ToldFrom pool rs k (Some (AtRecord i f)) = (j : ℕ) × (i ≡ k + j) × FirstFault pool rs j f
 

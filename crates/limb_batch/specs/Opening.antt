@@ -1,6 +1,6 @@
 -- Which records are refused, and with which fault: the tests in their order.
 use Rattle.std.specs.Prelude.{◌≡◌, ℕ, ◌+◌, ◌-◌, ◌%◌, ◌^◌, ◌<◌, ◌≤◌, true, cond, List, [], ◌∷◌, length, get_or, take, pos, neg_ℤ, ◌≤ℤ◌, Some, None, Option, ◌==◌, int_lt, nat_lt, slice_index, slice_index_or}
-use Rattle.std.specs.List.{AllByRecursion as All}
+use Rattle.std.specs.List.{AllByRecursion}
 use Rattle.batch.specs.Term.{most_terms, most_digits, farthest_top}
 use Rattle.batch.specs.TermKinds.{kind_numbered, kind_is_regular}
 use Rattle.batch.specs.declared.kind.Kind.{Kind}
@@ -62,11 +62,11 @@ opening_fault pool rs = cond (nat_lt most_terms (length rs)) (Some TooManyTerms)
 pub record FirstFault (pool : List ℕ) (rs : List LimbRecord) (i : ℕ) (f : RecordFault) : Type 0 where
   pub there : i < length rs
   pub faulty : (d : LimbRecord) → record_fault pool (slice_index_or rs i d) ≡ Some f
-  pub first : All (λ r. record_fault pool r ≡ None) (take i rs)
+  pub first : AllByRecursion (λ r. record_fault pool r ≡ None) (take i rs)
 
 -- what the outcome of an opening tells of the records
 abbrev pub Told : List ℕ → List LimbRecord → Option BatchFault → Type 0
-Told pool rs None = (length rs ≤ most_terms) × All (λ r. record_fault pool r ≡ None) rs
+Told pool rs None = (length rs ≤ most_terms) × AllByRecursion (λ r. record_fault pool r ≡ None) rs
 Told pool rs (Some TooManyTerms) = most_terms < length rs
 Told pool rs (Some (AtRecord i f)) = (length rs ≤ most_terms) × FirstFault pool rs i f
 

@@ -6,7 +6,7 @@ use Rattle.std.proofs.lemmas.List.{length-map}
 use Rattle.std.specs.Float.Ieee.{size}
 use borrow.Author.Tests.{ltb-false, eqb-true, clash}
 use Rattle.std.proofs.lemmas.Int.{ints}
-use Rattle.std.specs.List.{AllByRecursion as All}
+use Rattle.std.specs.List.{AllByRecursion}
 use Rattle.std.proofs.ByRecursion.{All-map, All-weaker, All-from_get_or, All-take, All-drop}
 use Rattle.exact.specs.Limbs.{Limbs, limbs_value}
 use Rattle.exact.proofs.LowDigits.{size_lowered}
@@ -38,11 +38,11 @@ none_at : (i : ℕ) (f : Option RecordFault) (rest : Option BatchFault) → is_s
 none_at i None rest h = (refl, h)
 none_at i (Some f) rest h = absurd (clash (sym h))
 
-none_first : (pool : List ℕ) (i : ℕ) (rs : List LimbRecord) → is_some (first_fault pool i rs) ≡ false → All (λ r. is_some (record_fault pool r) ≡ false) rs
+none_first : (pool : List ℕ) (i : ℕ) (rs : List LimbRecord) → is_some (first_fault pool i rs) ≡ false → AllByRecursion (λ r. is_some (record_fault pool r) ≡ false) rs
 none_first pool i [] h = tt
 none_first pool i (r ∷ rs) h = let p = none_at i (record_fault pool r) (first_fault pool (i + 1) rs) h in (p.0, none_first pool (i + 1) rs p.1)
 
-pub none_refused : (pool : List ℕ) (rs : List LimbRecord) → is_some (opening_fault pool rs) ≡ false → (length rs ≤ most_terms) × All (λ r. is_some (record_fault pool r) ≡ false) rs
+pub none_refused : (pool : List ℕ) (rs : List LimbRecord) → is_some (opening_fault pool rs) ≡ false → (length rs ≤ most_terms) × AllByRecursion (λ r. is_some (record_fault pool r) ≡ false) rs
 none_refused pool rs h = let p = passed (nat_lt most_terms (length rs)) _ _ h in (ltb-false _ _ p.0, none_first pool 0 rs p.1)
 
 not_less : (a b : ℤ) → int_lt a b ≡ false → b ≤ℤ a

@@ -1,7 +1,7 @@
 -- The terms of lawful records can be a batch.
 use Rattle.std.specs.Prelude.{◌≡◌, ℕ, ◌*◌, List, [], ◌∷◌, length}
 use Rattle.std.proofs.Common.{◌∙◌, arith, suc-mul, length-append}
-use Rattle.std.specs.List.{AllByRecursion as All}
+use Rattle.std.specs.List.{AllByRecursion}
 use Rattle.std.proofs.lemmas.List.{length-take}
 use Rattle.std.proofs.ByRecursion.{All-append, All-take}
 use Rattle.batch.specs.Term.{Term, Limited, Batchable, most_terms}
@@ -13,7 +13,7 @@ module _ {X : Type 0} {width : ℕ} {parts : X → List Term} (laws : LawfulReco
   length_flat (x ∷ xs) =
       length-append (parts x) (flat parts xs) ∙ (let a = laws.even x in let b = length_flat xs in let c = suc-mul (length xs) width in omega arith)
 
-  limited_flat : (xs : List X) → All Limited (flat parts xs)
+  limited_flat : (xs : List X) → AllByRecursion Limited (flat parts xs)
   limited_flat [] = tt
   limited_flat (x ∷ xs) = All-append Limited (parts x) (flat parts xs) (laws.each_limited x) (limited_flat xs)
 

@@ -1,6 +1,6 @@
 -- A list of records, each of which means the same number of terms, as one list of terms.
 use Rattle.std.specs.Prelude.{◌≡◌, ℕ, ◌/◌, ◌%◌, ◌<◌, ◌≤◌, cond, List, [], ◌∷◌, ◌++◌, length, take, Some, None, Option, nat_lt, slice_index_or}
-use Rattle.std.specs.List.{AllByRecursion as All, slice_get}
+use Rattle.std.specs.List.{AllByRecursion, slice_get}
 use Rattle.batch.specs.Term.{Term, Limited, most_terms}
 use Rattle.batch.specs.declared.fault.BatchFault.{BatchFault}
 use Rattle.batch.specs.declared.fault.BatchFault.TheVariants.{TooManyTerms}
@@ -10,7 +10,7 @@ pub record LawfulRecord {X : Type 0} (width : ℕ) (parts : X → List Term) : T
   pub some : 1 ≤ width
   pub few : width ≤ 2
   pub even : (x : X) → length (parts x) ≡ width
-  pub each_limited : (x : X) → All Limited (parts x)
+  pub each_limited : (x : X) → AllByRecursion Limited (parts x)
 
 -- the terms of the records, one record after the other
 abbrev pub flat : {X : Type 0} → (X → List Term) → List X → List Term

@@ -2,7 +2,7 @@
 ghost use Rattle.std.specs.Prelude.{◌≡◌, ◌<◌, length};
 
 pub mod absorbing;
-pub mod ends;
+pub mod both_ends;
 pub mod rounding;
 
 // The window is `totals` from the slot `from` on, the least significant total first, the lowest of them at the column `lowest`. Below the

@@ -1,6 +1,6 @@
 // What is printed of a sheet and of a call's outcome.
 
-use history::sheet::Sheet;
+use history::any_sheet::Sheet;
 use sheet::fault::SheetFault;
 use sheet::mark::Mark;
 use sheet::sheet::{OpenSheet, SetSheet};

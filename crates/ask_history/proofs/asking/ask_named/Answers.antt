@@ -1,7 +1,7 @@
 use Rattle.std.proofs.Common.{List, sym, subst}
 use Rattle.batch.specs.Term.{Term}
 use Rattle.sheet.specs.Model.{asking}
-use Rattle.ask_history.specs.declared.sheet.Sheet.TheVariants.{Set}
+use Rattle.ask_history.specs.declared.any_sheet.Sheet.TheVariants.{Set}
 use Rattle.ask_history.specs.Data.{question_of}
 use Rattle.ask_history.specs.Law.{CallLaw}
 use Rattle.ask_history.proofs.Answering.{terms_named, terms_past}

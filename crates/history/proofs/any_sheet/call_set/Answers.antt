@@ -2,13 +2,13 @@ use Rattle.std.proofs.Common.{◌≡◌, false, [], ◌∷◌, ◌++◌, sym, re
 use Rattle.std.proofs.lemmas.Bool.{false≢true}
 use Rattle.sheet.specs.Model.{Call, reopening}
 use Rattle.history.specs.declared.call.SheetCall.{SheetCall}
-use Rattle.history.specs.declared.sheet.Sheet.TheVariants.{Open}
+use Rattle.history.specs.declared.any_sheet.Sheet.TheVariants.{Open}
 use Rattle.history.specs.Data.{call_of}
 use Rattle.history.specs.Reaches.{Reaches}
 use Rattle.history.specs.Turns.{fits, opens, fitting, told_after}
 use Rattle.history.proofs.Reaching.{turns_open, stays_set}
 use Rattle.history.proofs.Turning.{told_in_turn, told_out_of_turn}
-use Rattle.history.proofs.sheet.call_set.Goals as goal
+use Rattle.history.proofs.any_sheet.call_set.Goals as goal
 
 pub returns-in-Reopen : goal.returns-in-Reopen
 returns-in-Reopen c =

@@ -1,13 +1,13 @@
 use Rattle.std.proofs.Common.{◌≡◌, [], ◌∷◌, ◌++◌, is_some, sym, refl, ap, ◌∙◌, subst}
 use Rattle.std.proofs.lemmas.Bool.{false≢true}
 use Rattle.sheet.specs.Model.{Call, marking, undoing, setting, reopening}
-use Rattle.history.specs.declared.sheet.Sheet.TheVariants.{Open, Set}
+use Rattle.history.specs.declared.any_sheet.Sheet.TheVariants.{Open, Set}
 use Rattle.history.specs.Data.{call_of}
 use Rattle.history.specs.Reaches.{Reaches}
 use Rattle.history.specs.Turns.{fits, fitting, told_after}
 use Rattle.history.proofs.Reaching.{turns_open, turns_set, stays_open}
 use Rattle.history.proofs.Turning.{told_in_turn, told_out_of_turn, told_err}
-use Rattle.history.proofs.sheet.call_open.Goals as goal
+use Rattle.history.proofs.any_sheet.call_open.Goals as goal
 
 pub returns-in-Mark : goal.returns-in-Mark
 returns-in-Mark c =

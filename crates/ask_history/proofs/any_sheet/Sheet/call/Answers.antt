@@ -1,10 +1,10 @@
 use Rattle.std.proofs.Common.{List, map, sym, subst}
 use Rattle.batch.specs.Term.{Term}
-use Rattle.ask_history.specs.declared.sheet.Sheet.{Sheet}
+use Rattle.ask_history.specs.declared.any_sheet.Sheet.{Sheet}
 use Rattle.ask_history.specs.Data.{call_of}
 use Rattle.ask_history.specs.Law.{CallLaw}
 use Rattle.ask_history.proofs.Answering.{named_batchable, proper_call}
-use Rattle.ask_history.proofs.sheet.Sheet.call.Goals as goal
+use Rattle.ask_history.proofs.any_sheet.Sheet.call.Goals as goal
 
 pub returns-in-Open : goal.returns-in-Open
 returns-in-Open g c =

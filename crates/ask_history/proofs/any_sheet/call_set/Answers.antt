@@ -7,12 +7,12 @@ use Rattle.answers.specs.Asked.{Question}
 use Rattle.answers.specs.Trace.{ProperCall}
 use Rattle.ask_history.specs.declared.call.SheetCall.{SheetCall}
 use Rattle.ask_history.specs.declared.outcome.Outcome.TheVariants.{Done}
-use Rattle.ask_history.specs.declared.sheet.Sheet.TheVariants.{Open, Set}
+use Rattle.ask_history.specs.declared.any_sheet.Sheet.TheVariants.{Open, Set}
 use Rattle.ask_history.specs.Data.{call_of}
 use Rattle.ask_history.specs.Law.{CallLaw}
 use Rattle.ask_history.proofs.Calling.{call_in_turn, call_out_of_turn}
-use Rattle.ask_history.proofs.sheet.call_set.Given as given
-use Rattle.ask_history.proofs.sheet.call_set.Goals as goal
+use Rattle.ask_history.proofs.any_sheet.call_set.Given as given
+use Rattle.ask_history.proofs.any_sheet.call_set.Goals as goal
 
 pub returns-in-Reopen : goal.returns-in-Reopen
 returns-in-Reopen g c =

@@ -7,12 +7,12 @@ use Rattle.answers.specs.Asked.{Question}
 use Rattle.answers.specs.Trace.{reply_of}
 use Rattle.ask_history.specs.declared.call.SheetCall.{SheetCall}
 use Rattle.ask_history.specs.declared.outcome.Outcome.TheVariants.{Done}
-use Rattle.ask_history.specs.declared.sheet.Sheet.TheVariants.{Open, Set}
+use Rattle.ask_history.specs.declared.any_sheet.Sheet.TheVariants.{Open, Set}
 use Rattle.ask_history.specs.Data.{call_of}
 use Rattle.ask_history.specs.Law.{CallLaw}
 use Rattle.ask_history.proofs.Calling.{call_in_turn, call_out_of_turn, call_on_open}
-use Rattle.ask_history.proofs.sheet.call_open.Given as given
-use Rattle.ask_history.proofs.sheet.call_open.Goals as goal
+use Rattle.ask_history.proofs.any_sheet.call_open.Given as given
+use Rattle.ask_history.proofs.any_sheet.call_open.Goals as goal
 
 pub returns-in-Mark : goal.returns-in-Mark
 returns-in-Mark g c = λ batches proper.
