@@ -3,7 +3,7 @@ use Rattle.std.proofs.Common.{◌≡◌, ℕ, Bool, true, false, cond, ◌⊎◌
 use mathlib.Core.Path.{fun_ext}
 use Rattle.sheet.specs.Numbers.{Refusal, refused_by}
 use Rattle.sheet.specs.Model.{asking}
-use Rattle.sheet.specs.Turns.{fits, open_after}
+use Rattle.history.specs.Turns.{fits, open_after}
 use Rattle.sheet.specs.declared.mark.Mark.{Mark}
 use Rattle.answers.specs.Published.{Published}
 use Rattle.answers.specs.Asked.{Question, Reply, refused, answered, asked}

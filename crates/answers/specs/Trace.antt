@@ -2,7 +2,7 @@
 use Rattle.std.specs.Prelude.{◌≡◌, ℕ, true, false, cond, List, [], ◌∷◌, ◌++◌, map, Some, None, Option}
 use Rattle.sheet.specs.Numbers.{Refusal, refused_by}
 use Rattle.sheet.specs.Model.{Call, marking, undoing, setting, reopening, asking, History, refusal, model, mark_after}
-use Rattle.sheet.specs.Turns.{fits, open_after, fitting}
+use Rattle.history.specs.Turns.{fits, open_after, fitting}
 use Rattle.sheet.specs.Reached.{Reached, ReachedSet}
 use Rattle.sheet.specs.declared.mark.Mark.{Mark}
 use Rattle.sheet.specs.declared.sheet.OpenSheet.{OpenSheet}

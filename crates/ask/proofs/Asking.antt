@@ -7,13 +7,13 @@ use Rattle.std.proofs.lemmas.List.Sums.{fold_push}
 use Rattle.std.proofs.lemmas.Bool.{cond-true}
 use Rattle.batch.specs.Term.{Term}
 use Rattle.sheet.specs.Model.{asking, History, Model, blank, after, model}
-use Rattle.sheet.specs.Turns.{fits, open_after, fitting}
+use Rattle.history.specs.Turns.{fits, open_after, fitting}
 use Rattle.sheet.specs.Reached.{Shows}
 use Rattle.sheet.specs.Shown.{shown}
 use Rattle.sheet.specs.declared.mark.Mark.{Mark}
 use Rattle.sheet.specs.declared.marks.Marks.{Marks}
 use Rattle.sheet.specs.declared.sheet.SetSheet.{SetSheet}
-use Rattle.sheet.proofs.Turning.{open_after_push, fitting_push}
+use Rattle.history.proofs.Turning.{open_after_push, fitting_push}
 use Rattle.answers.specs.Published.{Published}
 use Rattle.answers.specs.Asked.{Question, question, Reply, refused, answered, asked}
 use Rattle.answers.specs.Laws.{Proper, AnswerLaw, Twins, Enclosing}

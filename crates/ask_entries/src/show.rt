@@ -55,8 +55,8 @@ pub fn marks<S: Readable>(rt: &impl Print, sheet: &S) -> io::Result<()> {
 }
 
 // Prints what a call got.
-pub fn outcome(rt: &impl Print, res: Result<(), SheetFault>) -> io::Result<()> {
-    match res {
+pub fn outcome(rt: &impl Print, returned: Result<(), SheetFault>) -> io::Result<()> {
+    match returned {
         Ok(()) => println!(rt; "done"),
         Err(fault) => {
             let number = fault.number();
@@ -82,8 +82,12 @@ fn answer_limbs(rt: &impl Print, answer: Answer, limbs: &[u32]) -> io::Result<()
 }
 
 // Prints an answer, or why there is none.
-pub fn answer(rt: &impl Print, res: Result<Answer, AskFault>, limbs: &[u32]) -> io::Result<()> {
-    match res {
+pub fn answer(
+    rt: &impl Print,
+    returned: Result<Answer, AskFault>,
+    limbs: &[u32],
+) -> io::Result<()> {
+    match returned {
         Ok(answer) => {
             let kind = answer.kind.number();
             let exponent = answer.exponent;

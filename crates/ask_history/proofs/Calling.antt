@@ -6,7 +6,7 @@ use Rattle.sheet.specs.declared.sheet.OpenSheet.{OpenSheet}
 use Rattle.sheet.specs.Model.{Call, History}
 use Rattle.sheet.specs.Numbers.{told}
 use Rattle.sheet.specs.Reached.{Reached}
-use Rattle.sheet.specs.Turns.{fits, opens, open_after, fitting}
+use Rattle.history.specs.Turns.{fits, opens, open_after, fitting}
 use Rattle.answers.specs.Asked.{Question, Reply}
 use Rattle.answers.specs.Trace.{Event, event, without_question, history_of, reply_of, reply_in_turn, reply_after, ProperCall}
 use Rattle.ask_history.specs.declared.outcome.CallFault.TheVariants.{OutOfTurn}

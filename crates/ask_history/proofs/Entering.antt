@@ -3,7 +3,7 @@ use Rattle.std.proofs.Common.{◌≡◌, ℕ, ◌+◌, ◌<◌, ◌≤◌, List,
 use Rattle.std.proofs.lemmas.List.{length_push, get_or_push, get_or_append_left, get_or-set_same, get_or-set_other, take_at, take-append-le, take_more, length-take-le, drop-drop, drop-set-lt}
 use Rattle.std.proofs.lemmas.Bool.{cases_eq}
 use Rattle.sheet.specs.Model.{Call, History, undoing, mark_after}
-use Rattle.sheet.specs.Turns.{fitting}
+use Rattle.history.specs.Turns.{fitting}
 use Rattle.answers.specs.Asked.{Question}
 use Rattle.answers.specs.Trace.{Event, event, history_of, without_question, reply_after}
 use Rattle.ask_history.specs.declared.outcome.Outcome.{Outcome}

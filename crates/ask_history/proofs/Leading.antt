@@ -4,10 +4,10 @@ use Rattle.std.proofs.lemmas.List.{map_push}
 use Rattle.sheet.specs.Model.{Call, marking, undoing, setting, reopening, asking, History, model, mark_after}
 use Rattle.sheet.specs.Reached.{Reached, ReachedSet}
 use Rattle.sheet.specs.Shown.{shown}
-use Rattle.sheet.specs.Turns.{fits, opens, open_after, fitting}
+use Rattle.history.specs.Turns.{fits, opens, open_after, fitting}
 use Rattle.sheet.specs.Undo.{undoes}
 use Rattle.sheet.proofs.Agreeing.{agrees_shows}
-use Rattle.sheet.proofs.Turning.{open_after_push, fitting_push, fitting_skip}
+use Rattle.history.proofs.Turning.{open_after_push, fitting_push, fitting_skip}
 use Rattle.answers.specs.Asked.{Question, Reply}
 use Rattle.answers.specs.Trace.{Event, event, without_question, history_of, LawfulTrace}
 use Rattle.ask_history.specs.declared.any_sheet.Sheet.{Sheet}

@@ -2,7 +2,7 @@
 use Rattle.std.specs.Prelude.{◌≡◌, ℕ, ◌<◌, min, true, List, [], ◌∷◌, ◌++◌, map, length, take, drop, ℤ, slice_index_or}
 use Rattle.batch.specs.Term.{Term}
 use Rattle.sheet.specs.Model.{Call, History, undoing, mark_after}
-use Rattle.sheet.specs.Turns.{fitting}
+use Rattle.history.specs.Turns.{fitting}
 use Rattle.answers.specs.Asked.{Question}
 use Rattle.answers.specs.Trace.{Event, event, without_question, history_of, reply_after}
 use Rattle.ask_history.specs.declared.call.SheetCall.{SheetCall}

@@ -23,10 +23,10 @@ pub enum Sheet {
     Set(SetSheet),
 }
 
-fn outcome_of(res: Result<(), SheetFault>) -> Outcome
-    ensures { reply_told result ≡ reply_of (told res) }
+fn outcome_of(returned: Result<(), SheetFault>) -> Outcome
+    ensures { reply_told result ≡ reply_of (told returned) }
 {
-    match res {
+    match returned {
         Ok(()) => Outcome::Done,
         Err(fault) => Outcome::Refused(fault.into()),
     }

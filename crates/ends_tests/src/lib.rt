@@ -5,11 +5,10 @@
 mod tests {
     use ends::{Direction, round_end};
     use grid::{FlooredGrid, FreeGrid, Mode};
-    use std::test::Fail;
 
     // 5 lies in the middle of 4 and 6, which are 2 and 3 steps of 2.
     #[test]
-    fn tie_goes_to_the_even_step(rt: HostRuntime) -> Result<(), Fail> {
+    fn tie_goes_to_the_even_step(rt: HostRuntime) {
         let mut answer = [7u32; 4];
         match FreeGrid::new(2) {
             Ok(grid) => match round_end(
@@ -27,23 +26,16 @@ mod tests {
                     assert_eq!(rt; r.direction, Direction::Below);
                     assert_eq!(rt; answer[0], 0x8000_0000);
                     assert_eq!(rt; answer[1], 0);
-                    Ok(())
                 }
-                None => {
-                    assert!(rt; false);
-                    Ok(())
-                },
+                None => assert!(rt; false),
             },
-            Err(_) => {
-                assert!(rt; false);
-                Ok(())
-            },
+            Err(_) => assert!(rt; false),
         }
     }
 
     // -7 goes to -8, which has one bit more.
     #[test]
-    fn raised_bits_carry(rt: HostRuntime) -> Result<(), Fail> {
+    fn raised_bits_carry(rt: HostRuntime) {
         let mut answer = [7u32; 4];
         match FreeGrid::new(2) {
             Ok(grid) => match round_end(
@@ -60,23 +52,16 @@ mod tests {
                     assert_eq!(rt; r.precision, 2);
                     assert_eq!(rt; r.direction, Direction::Below);
                     assert_eq!(rt; answer[0], 0x8000_0000);
-                    Ok(())
                 }
-                None => {
-                    assert!(rt; false);
-                    Ok(())
-                },
+                None => assert!(rt; false),
             },
-            Err(_) => {
-                assert!(rt; false);
-                Ok(())
-            },
+            Err(_) => assert!(rt; false),
         }
     }
 
     // 40 bits of an end whose lowest bit, with what is left over, raises them.
     #[test]
-    fn three_limbs_are_cut_to_two(rt: HostRuntime) -> Result<(), Fail> {
+    fn three_limbs_are_cut_to_two(rt: HostRuntime) {
         let mut answer = [7u32; 4];
         match FreeGrid::new(40) {
             Ok(grid) => match round_end(
@@ -95,23 +80,16 @@ mod tests {
                     assert_eq!(rt; answer[0], 0x0100_0000);
                     assert_eq!(rt; answer[1], 0x8000_0000);
                     assert_eq!(rt; answer[2], 0);
-                    Ok(())
                 }
-                None => {
-                    assert!(rt; false);
-                    Ok(())
-                },
+                None => assert!(rt; false),
             },
-            Err(_) => {
-                assert!(rt; false);
-                Ok(())
-            },
+            Err(_) => assert!(rt; false),
         }
     }
 
     // Something between -2 ^ -1088 and 0 goes away from 0 to the first number of the grid.
     #[test]
-    fn a_part_alone_is_one_step(rt: HostRuntime) -> Result<(), Fail> {
+    fn a_part_alone_is_one_step(rt: HostRuntime) {
         let mut answer = [7u32; 2];
         match FlooredGrid::new(53, -1074) {
             Ok(grid) => match round_end(
@@ -130,23 +108,16 @@ mod tests {
                     assert_eq!(rt; r.direction, Direction::Below);
                     assert_eq!(rt; answer[0], 0x8000_0000);
                     assert_eq!(rt; answer[1], 0);
-                    Ok(())
                 }
-                None => {
-                    assert!(rt; false);
-                    Ok(())
-                },
+                None => assert!(rt; false),
             },
-            Err(_) => {
-                assert!(rt; false);
-                Ok(())
-            },
+            Err(_) => assert!(rt; false),
         }
     }
 
     // What is left over is below 2 ^ -1088, which is itself on the grid.
     #[test]
-    fn a_fine_grid_leaves_it_undetermined(rt: HostRuntime) -> Result<(), Fail> {
+    fn a_fine_grid_leaves_it_undetermined(rt: HostRuntime) {
         let mut answer = [7u32; 2];
         match FlooredGrid::new(53, -1088) {
             Ok(grid) => match round_end(
@@ -158,19 +129,10 @@ mod tests {
                 Mode::AwayFromZero,
                 &mut answer,
             ) {
-                Some(_) => {
-                    assert!(rt; false);
-                    Ok(())
-                },
-                None => {
-                    assert_eq!(rt; answer[0], 7);
-                    Ok(())
-                },
+                Some(_) => assert!(rt; false),
+                None => assert_eq!(rt; answer[0], 7),
             },
-            Err(_) => {
-                assert!(rt; false);
-                Ok(())
-            },
+            Err(_) => assert!(rt; false),
         }
     }
 }

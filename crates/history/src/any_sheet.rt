@@ -19,10 +19,10 @@ pub enum Sheet {
     Set(SetSheet),
 }
 
-fn outcome_of(res: Result<(), SheetFault>) -> Outcome
-    ensures { outcome_tells result ≡ told res }
+fn outcome_of(returned: Result<(), SheetFault>) -> Outcome
+    ensures { outcome_tells result ≡ told returned }
 {
-    match res {
+    match returned {
         Ok(()) => Outcome::Done,
         Err(fault) => Outcome::Refused(fault.into()),
     }

@@ -17,7 +17,9 @@ pub fn limb_count(precision: u64) -> usize
 }
 
 fn limbs_fault(limbs: &[u32], precision: u64) -> Option<RecordFault>
-    requires { (1 ≤ precision) × ((precision ≤ 4096) × (length limbs.now ≡ limbs_for precision)) }
+    requires some { 1 ≤ precision }
+    requires few { precision ≤ 4096 }
+    requires whole { length limbs.now ≡ limbs_for precision }
     ensures { result ≡ limbs_fault limbs.now precision }
 {
     if limbs[limbs.len() - 1] < TOP_BIT {

@@ -35,7 +35,9 @@ fn window_at(limbs: &[u32], from: i64) -> u32
 
 // How far a column begins above the lowest bit of so many limbs.
 fn column_start(count: usize, exponent: i64, column: i32) -> i64
-    requires { (count ≤ 128) × ((negsuc 999999999 ≤ℤ exponent) × (exponent ≤ℤ pos 1000000000)) }
+    requires few { count ≤ 128 }
+    requires from { negsuc 999999999 ≤ℤ exponent }
+    requires upto { exponent ≤ℤ pos 1000000000 }
     ensures { result ≡ (pos 32 *ℤ (pos count +ℤ column)) -ℤ exponent }
 {
     32 * (count as i64 + column as i64) - exponent

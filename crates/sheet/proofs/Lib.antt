@@ -3,4 +3,3 @@ pub mod Notes
 pub mod Agreeing
 pub mod Refusing
 pub mod Settling
-pub mod Turning

@@ -4,4 +4,3 @@ pub mod Shown
 pub mod Undo
 pub mod Reached
 pub mod Laws
-pub mod Turns

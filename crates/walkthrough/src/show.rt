@@ -53,8 +53,8 @@ pub fn marks<S: Readable>(rt: &impl Print, sheet: &S) -> io::Result<()> {
 }
 
 // Prints what a call got.
-pub fn outcome(rt: &impl Print, res: Result<(), SheetFault>) -> io::Result<()> {
-    match res {
+pub fn outcome(rt: &impl Print, returned: Result<(), SheetFault>) -> io::Result<()> {
+    match returned {
         Ok(()) => println!(rt; "done"),
         Err(fault) => {
             let number = fault.number();

@@ -2,7 +2,7 @@ use Rattle.std.proofs.Common.{◌≡◌, true, false, List, sym, refl, ap, subst
 use Rattle.std.proofs.lemmas.Bool.{false≢true}
 use Rattle.batch.specs.Term.{Term}
 use Rattle.sheet.specs.Model.{Call, marking, undoing, setting}
-use Rattle.sheet.specs.Turns.{fits, opens}
+use Rattle.history.specs.Turns.{fits, opens}
 use Rattle.answers.specs.Asked.{Question}
 use Rattle.answers.specs.Trace.{reply_of}
 use Rattle.ask_history.specs.declared.call.SheetCall.{SheetCall}
