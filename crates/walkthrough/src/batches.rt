@@ -37,14 +37,31 @@ fn describe<B: Batch>(rt: &impl Print, name: &str, b: &B) -> io::Result<()> {
     Ok(())
 }
 
-fn refused(rt: &impl Print, name: &str, fault: Option<BatchFault>) -> io::Result<()> {
-    match fault {
-        None => println!(rt; "  {name}: opened"),
-        Some(fault) => {
-            let number = fault.number();
-            let place = fault.place();
-            println!(rt; "  {name}: refused, {number} at {place}")
-        }
+fn refused(rt: &impl Print, name: &str, fault: BatchFault) -> io::Result<()> {
+    println!(rt; "  {name}: refused, {} at {}", fault.number(), fault.place())
+}
+
+// Prints the terms of a batch, or why there is none.
+fn show<B: Batch + Drop>(
+    rt: &impl Print,
+    name: &str,
+    opened: Result<B, BatchFault>,
+) -> io::Result<()> {
+    match opened {
+        Ok(batch) => describe(rt, name, &batch),
+        Err(fault) => refused(rt, name, fault),
+    }
+}
+
+// Prints why there is no batch.
+fn show_refusal<B: Batch + Drop>(
+    rt: &impl Print,
+    name: &str,
+    opened: Result<B, BatchFault>,
+) -> io::Result<()> {
+    match opened {
+        Ok(_) => println!(rt; "  {name}: opened"),
+        Err(fault) => refused(rt, name, fault),
     }
 }
 
@@ -54,8 +71,7 @@ fn limbs(rt: &impl Print) -> io::Result<()> {
         limb_record(Kind::Negative, 1, 33, 1),
         limb_record(Kind::NegativeZero, 0, 0, 0),
     ];
-    let (opened, _) = LimbBatch::open(&records, &POOL);
-    describe(rt, "limbs: 5, -(1 + 2^-32), -0", &opened)
+    show(rt, "limbs: 5, -(1 + 2^-32), -0", LimbBatch::open(&records, &POOL))
 }
 
 fn pairs(rt: &impl Print) -> io::Result<()> {
@@ -64,25 +80,18 @@ fn pairs(rt: &impl Print) -> io::Result<()> {
         tail: -2.0,
     };
     let rows = [pair.row()];
-    match ListBatch::open(&rows) {
-        Ok(opened) => describe(rt, "a pair: 0.5, -2", &opened),
-        Err(fault) => refused(rt, "a pair", Some(fault)),
-    }
+    show(rt, "a pair: 0.5, -2", ListBatch::open(&rows))
 }
 
 fn scaled(rt: &impl Print) -> io::Result<()> {
     let records = [Scaled::new(-5, 38), Scaled::new(0, 7)];
-    match ListBatch::open(&records) {
-        Ok(opened) => describe(rt, "scaled: -5 * 2^38, 0 * 2^7", &opened),
-        Err(fault) => refused(rt, "scaled", Some(fault)),
-    }
+    show(rt, "scaled: -5 * 2^38, 0 * 2^7", ListBatch::open(&records))
 }
 
 // Opens one good record and then one with a fault.
 fn try_record(rt: &impl Print, name: &str, record: LimbRecord) -> io::Result<()> {
     let records = [limb_record(Kind::NotANumber, 0, 0, 0), record];
-    let (_, fault) = LimbBatch::open(&records, &POOL);
-    refused(rt, name, fault)
+    show_refusal(rt, name, LimbBatch::open(&records, &POOL))
 }
 
 fn refused_records(rt: &impl Print) -> io::Result<()> {
@@ -122,10 +131,7 @@ fn too_many(rt: &impl Print) -> io::Result<()> {
         tail: 0.0,
     }
     .row(); 513];
-    match ListBatch::open(&rows) {
-        Ok(_) => refused(rt, "513 pairs", None),
-        Err(fault) => refused(rt, "513 pairs", Some(fault)),
-    }
+    show_refusal(rt, "513 pairs", ListBatch::open(&rows))
 }
 
 pub fn walk(rt: &impl Print) -> io::Result<()> {

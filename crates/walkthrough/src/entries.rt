@@ -1,44 +1,31 @@
 // Two entries made by calls on the sheets themselves.
 
-use crate::show;
 use sheet::sheet::OpenSheet;
+use sheet_lines::{lay, mark, marks, reopen, set, undo};
 use std::io;
-
-fn mark(rt: &impl Print, sheet: &mut OpenSheet, place: u32, mark: u32) -> io::Result<()> {
-    print!(rt; "  mark {place} {mark}: ")?;
-    show::outcome(rt, sheet.mark(place, mark))
-}
-
-fn undo(rt: &impl Print, sheet: &mut OpenSheet) -> io::Result<()> {
-    print!(rt; "  undo: ")?;
-    show::outcome(rt, sheet.undo())
-}
 
 // A mark, a repeated mark, undos down to the empty trail, and numbers that no sheet has.
 fn try_marks(rt: &impl Print, sheet: &mut OpenSheet) -> io::Result<()> {
     mark(rt, sheet, 3, 1)?;
     mark(rt, sheet, 3, 1)?;
     mark(rt, sheet, 7, 2)?;
-    show::marks(rt, sheet)?;
+    marks(rt, sheet)?;
     undo(rt, sheet)?;
-    show::marks(rt, sheet)?;
+    marks(rt, sheet)?;
     undo(rt, sheet)?;
-    show::marks(rt, sheet)?;
+    marks(rt, sheet)?;
     undo(rt, sheet)?;
     undo(rt, sheet)?;
-    show::marks(rt, sheet)?;
+    marks(rt, sheet)?;
     mark(rt, sheet, 1024, 1)?;
     mark(rt, sheet, 1023, 3)
 }
 
 // Marks until the trail is full.
 fn fill_trail(rt: &impl Print, sheet: &mut OpenSheet) -> io::Result<()> {
-    let mut done = 0u32;
-    for place in 0..256u32 {
-        if sheet.mark(place % 2, 1).is_ok() {
-            done = done.saturating_add(1);
-        }
-    }
+    let done = (0..256u32)
+        .filter(|place| sheet.mark(place % 2, 1).is_ok())
+        .count();
     println!(rt; "  mark 0 1 and mark 1 1 in turn, 256 times: {done} done")?;
     mark(rt, sheet, 5, 2)?;
     undo(rt, sheet)?;
@@ -47,29 +34,24 @@ fn fill_trail(rt: &impl Print, sheet: &mut OpenSheet) -> io::Result<()> {
 
 // An entry from the laying of its sheet to the set sheet, reopened once.
 pub fn first(rt: &impl Print) -> io::Result<()> {
-    println!(rt; "first entry\n  lay")?;
-    let mut sheet = OpenSheet::new();
-    show::marks(rt, &sheet)?;
+    println!(rt; "first entry")?;
+    let mut sheet = lay(rt)?;
     try_marks(rt, &mut sheet)?;
     fill_trail(rt, &mut sheet)?;
-    println!(rt; "  set")?;
-    let set = sheet.set();
-    show::marks(rt, &set)?;
-    println!(rt; "  reopen")?;
-    let mut reopened = set.reopen();
+    let set_sheet = set(rt, sheet)?;
+    let mut reopened = reopen(rt, set_sheet)?;
     undo(rt, &mut reopened)?;
     mark(rt, &mut reopened, 0, 0)?;
-    println!(rt; "  set")?;
-    show::marks(rt, &reopened.set())
+    let _ = set(rt, reopened)?;
+    Ok(())
 }
 
 // An entry laid anew: it inherits nothing.
 pub fn second(rt: &impl Print) -> io::Result<()> {
-    println!(rt; "second entry\n  lay")?;
-    let mut sheet = OpenSheet::new();
-    show::marks(rt, &sheet)?;
+    println!(rt; "second entry")?;
+    let mut sheet = lay(rt)?;
     undo(rt, &mut sheet)?;
     mark(rt, &mut sheet, 1023, 2)?;
-    println!(rt; "  set")?;
-    show::marks(rt, &sheet.set())
+    let _ = set(rt, sheet)?;
+    Ok(())
 }

@@ -1,14 +1,13 @@
 // Some grids: their widest width, their spacing at some exponents, and numbers that make no grid.
 
-use grid::{FlooredGrid, FreeGrid, Grid, GridFault, NamedGrid, precision_at};
+use grid::{FlooredGrid, Format, FreeGrid, Grid, GridFault, NamedGrid, precision_at};
 use std::io;
 
 const EXPONENTS: [i32; 5] = [-2_147_483_648, -1074, -20, 0, 1024];
 
 // Prints the weight of the last digit, and the number of digits, at some exponents.
 fn describe<G: Grid>(rt: &impl Print, name: &str, grid: &G) -> io::Result<()> {
-    let width = grid.width();
-    println!(rt; "  {name}: width {width}")?;
+    println!(rt; "  {name}: width {}", grid.width())?;
     for e in EXPONENTS {
         let spacing = grid.spacing(e);
         let digits = precision_at(grid, e);
@@ -21,10 +20,7 @@ fn describe<G: Grid>(rt: &impl Print, name: &str, grid: &G) -> io::Result<()> {
 fn show<G: Grid + Drop>(rt: &impl Print, name: &str, made: Result<G, GridFault>) -> io::Result<()> {
     match made {
         Ok(grid) => describe(rt, name, &grid),
-        Err(fault) => {
-            let number = fault.number();
-            println!(rt; "  {name}: refused, {number}")
-        }
+        Err(fault) => println!(rt; "  {name}: refused, {}", fault.number()),
     }
 }
 
@@ -35,7 +31,7 @@ fn good_grids(rt: &impl Print) -> io::Result<()> {
         "floored, 3 digits down to 2^-4",
         FlooredGrid::new(3, -4),
     )?;
-    show(rt, "binary64", NamedGrid::new(3))
+    describe(rt, "binary64", &NamedGrid::of(Format::Binary64))
 }
 
 fn refused_grids(rt: &impl Print) -> io::Result<()> {

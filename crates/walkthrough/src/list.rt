@@ -1,9 +1,9 @@
 // An entry made as a list of calls.
 
-use crate::show;
 use history::call::SheetCall;
 use history::outcome::Outcome;
 use history::run::run;
+use sheet_lines::marks;
 use std::io;
 
 const CALLS: [SheetCall; 9] = [
@@ -18,22 +18,19 @@ const CALLS: [SheetCall; 9] = [
     SheetCall::Mark(4, 1),
 ];
 
-fn outcome(rt: &impl Print, call: SheetCall, outcome: Outcome) -> io::Result<()> {
+fn show(rt: &impl Print, call: SheetCall, outcome: Outcome) -> io::Result<()> {
     match outcome {
-        Outcome::Done => println!(rt; "  {call:?}: done"),
-        Outcome::Refused(fault) => {
-            let number = fault.number();
-            println!(rt; "  {call:?}: refused, {number}")
-        }
+        Ok(()) => println!(rt; "  {call:?}: done"),
+        Err(fault) => println!(rt; "  {call:?}: refused, {}", fault.number()),
     }
 }
 
 pub fn run_listed(rt: &impl Print) -> io::Result<()> {
     println!(rt; "third entry, as a list of calls")?;
-    let mut outcomes = [Outcome::Done; 9];
+    let mut outcomes = [Ok(()); 9];
     let sheet = run(&CALLS, &mut outcomes);
-    for i in 0..9usize {
-        outcome(rt, CALLS[i], outcomes[i])?;
+    for (call, outcome) in CALLS.iter().zip(outcomes.iter()) {
+        show(rt, *call, *outcome)?;
     }
-    show::marks(rt, &sheet)
+    marks(rt, &sheet)
 }

@@ -7,7 +7,6 @@ mod columns;
 mod entries;
 mod grids;
 mod list;
-mod show;
 
 use std::io;
 
