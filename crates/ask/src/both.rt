@@ -9,17 +9,12 @@ ghost use Rattle.ask.specs.Told.{published};
 ghost use Rattle.ask.specs.Both.{BothAsked};
 
 use crate::answer::Answer;
-use crate::checking::allowed_mode;
+use crate::checking::check;
 use crate::compute::compute;
 use crate::fault::AskFault;
 use batch::Batch;
-use grid::Grid;
+use grid::{Grid, Mode, Rounding};
 use sheet::sheet::SetSheet;
-
-// The numbers of the modes downward and upward.
-const DOWNWARD: u32 = 1;
-
-const UPWARD: u32 = 2;
 
 // Asks downward and upward at once. A refusal of either leaves both answers' limbs as they were.
 pub fn ask_both<B: Batch, G: Grid>(
@@ -36,12 +31,12 @@ pub fn ask_both<B: Batch, G: Grid>(
     ensures reached { IfOk result (λ p. (h : List Event) → TracedSet h sheet.now → TracedSet (h ++ event (asking (question (B.Batch.terms batch.now) (G.Grid.spacing grid.now) (G.Grid.widest grid.now) 1 (length low.old))) (answered (published p.0 low.new)) ∷ event (asking (question (B.Batch.terms batch.now) (G.Grid.spacing grid.now) (G.Grid.widest grid.now) 2 (length high.old))) (answered (published p.1 high.new)) ∷ []) sheet.now) }
 {
     let marks = sheet.marks();
-    let terms = batch.count();
-    let width = grid.width();
-    let down = allowed_mode(marks, terms, width, DOWNWARD, low.len())?;
-    let up = allowed_mode(marks, terms, width, UPWARD, high.len())?;
-    Ok((
-        compute(marks, batch, grid, down, low),
-        compute(marks, batch, grid, up, high),
-    ))
+    let (terms, width) = (batch.count(), grid.width());
+    check(marks, terms, width, low.len())?;
+    check(marks, terms, width, high.len())?;
+    let mode = Mode::Downward;
+    let down = compute(marks, batch, Rounding { grid, mode }, low);
+    let mode = Mode::Upward;
+    let up = compute(marks, batch, Rounding { grid, mode }, high);
+    Ok((down, up))
 }

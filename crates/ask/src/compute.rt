@@ -6,7 +6,7 @@ ghost use Rattle.grid.specs.Rounding.{Mode as RoundingMode};
 ghost use Rattle.batch.specs.TermKinds.{kind_number};
 ghost use Rattle.sheet.specs.Shown.{shown};
 ghost use Rattle.column.specs.Parts.{Part};
-ghost use Rattle.answers.specs.Published.{answer, finite_answer, sum_answer, plain, limbs_of, is_downward, infinity, zero_of_sign, number_of_sign};
+ghost use Rattle.answers.specs.Published.{answer, finite_answer, sum_answer, plain, limbs_of, is_downward};
 ghost use Rattle.ends.specs.Directions.{direction_sign};
 ghost use Rattle.survey.specs.Kinds.{counted_kinds, has, zero_negative};
 ghost use Rattle.depth.specs.Rounded.{RoundedTo};
@@ -16,7 +16,7 @@ use crate::answer::Answer;
 use batch::{Batch, Kind};
 use depth::{RoundedSum, round_sum};
 use ends::Direction;
-use grid::{Grid, Mode};
+use grid::{Grid, Mode, Rounding};
 use sheet::marks::Marks;
 use survey::{KindsCounted, SumClass};
 
@@ -24,48 +24,15 @@ use survey::{KindsCounted, SumClass};
 fn copy_limbs(from: &[u32], limbs: &mut [u32])
     ensures { limbs.new ≡ limbs_of (length limbs.old) (limbs_value from.now) }
 {
-    for k in 0..limbs.len() {
-        limbs[k] = if k < from.len() { from[k] } else { 0 };
-    }
-}
-
-fn infinity_of_sign(negative: bool) -> Kind
-    ensures { result ≡ infinity negative }
-{
-    if negative {
-        Kind::NegativeInfinity
-    } else {
-        Kind::PositiveInfinity
-    }
-}
-
-fn zero_of_sign(negative: bool) -> Kind
-    ensures { result ≡ zero_of_sign negative }
-{
-    if negative {
-        Kind::NegativeZero
-    } else {
-        Kind::PositiveZero
-    }
-}
-
-fn number_of_sign(negative: bool) -> Kind
-    ensures { result ≡ number_of_sign negative }
-{
-    if negative {
-        Kind::Negative
-    } else {
-        Kind::Positive
-    }
+    let copied = from.len().min(limbs.len());
+    limbs[..copied].copy_from_slice(&from[..copied]);
+    limbs[copied..].fill(0);
 }
 
 fn is_downward(mode: Mode) -> bool
     ensures { result ≡ is_downward (mode_of mode) }
 {
-    match mode {
-        Mode::Downward => true,
-        Mode::Nearest | Mode::Upward | Mode::TowardZero | Mode::AwayFromZero => false,
-    }
+    mode == Mode::Downward
 }
 
 // An answer that is not regular; all limbs are cleared.
@@ -92,12 +59,12 @@ fn rounded_answer(
     ensures { (u : ℤ → ℤ) (m : RoundingMode) (ps : List Part) → RoundedTo u m ps rounded.end rounded.depth (limbs_value sum.now) → published result limbs.new ≡ sum_answer exact_zero_negative u m ps (length limbs.old) }
 {
     let end = rounded.end;
-    if !end.zero {
+    if let Some(extent) = end.extent {
         copy_limbs(sum, limbs);
         return Answer {
-            kind: number_of_sign(end.negative),
-            exponent: end.exponent,
-            precision: end.precision,
+            kind: Kind::regular(end.negative),
+            exponent: extent.exponent,
+            precision: extent.precision,
             direction: end.direction,
             depth: rounded.depth,
         };
@@ -106,7 +73,7 @@ fn rounded_answer(
         Direction::Exact => exact_zero_negative,
         Direction::Below | Direction::Above => end.negative,
     };
-    plain_answer(zero_of_sign(negative), end.direction, rounded.depth, limbs)
+    plain_answer(Kind::zero(negative), end.direction, rounded.depth, limbs)
 }
 
 // The answer where only finite terms count.
@@ -114,22 +81,16 @@ fn finite_answer<B: Batch, G: Grid>(
     exact_zero_negative: bool,
     marks: &Marks,
     batch: &B,
-    grid: &G,
-    mode: Mode,
+    rounding: Rounding<G>,
     limbs: &mut [u32],
 ) -> Answer
-    requires { exact_zero_negative ≡ zero_negative (is_downward (mode_of mode)) (has (counted_kinds (shown marks.now) (B.Batch.terms batch.now))) }
-    ensures { published result limbs.new ≡ finite_answer (shown marks.now) (B.Batch.terms batch.now) (G.Grid.spacing grid.now) (mode_of mode) (length limbs.old) }
+    requires { exact_zero_negative ≡ zero_negative (is_downward (mode_of rounding.mode)) (has (counted_kinds (shown marks.now) (B.Batch.terms batch.now))) }
+    ensures { published result limbs.new ≡ finite_answer (shown marks.now) (B.Batch.terms batch.now) (G.Grid.spacing rounding.grid.now) (mode_of rounding.mode) (length limbs.old) }
 {
     let mut sum = [0u32; 128];
-    match round_sum(batch, marks, grid, mode, &mut sum) {
+    match round_sum(batch, marks, rounding, &mut sum) {
         Some(rounded) => rounded_answer(rounded, exact_zero_negative, &sum, limbs),
-        None => plain_answer(
-            zero_of_sign(exact_zero_negative),
-            Direction::Exact,
-            0,
-            limbs,
-        ),
+        None => plain_answer(Kind::zero(exact_zero_negative), Direction::Exact, 0, limbs),
     }
 }
 
@@ -137,28 +98,18 @@ fn finite_answer<B: Batch, G: Grid>(
 pub fn compute<B: Batch, G: Grid>(
     marks: &Marks,
     batch: &B,
-    grid: &G,
-    mode: Mode,
+    rounding: Rounding<G>,
     limbs: &mut [u32],
 ) -> Answer
-    ensures { published result limbs.new ≡ answer (shown marks.now) (B.Batch.terms batch.now) (G.Grid.spacing grid.now) (mode_of mode) (length limbs.old) }
+    ensures { published result limbs.new ≡ answer (shown marks.now) (B.Batch.terms batch.now) (G.Grid.spacing rounding.grid.now) (mode_of rounding.mode) (length limbs.old) }
 {
     let kinds = KindsCounted::new(batch, marks);
     match kinds.class() {
         SumClass::NotANumber => plain_answer(Kind::NotANumber, Direction::Exact, 0, limbs),
-        SumClass::Infinite(negative) => plain_answer(
-            infinity_of_sign(negative),
-            Direction::Exact,
-            0,
-            limbs,
-        ),
-        SumClass::Number => finite_answer(
-            kinds.zero_is_negative(is_downward(mode)),
-            marks,
-            batch,
-            grid,
-            mode,
-            limbs,
-        ),
+        SumClass::Infinite(negative) => plain_answer(Kind::infinity(negative), Direction::Exact, 0, limbs),
+        SumClass::Number => {
+            let zero_negative = kinds.zero_is_negative(is_downward(rounding.mode));
+            finite_answer(zero_negative, marks, batch, rounding, limbs)
+        }
     }
 }

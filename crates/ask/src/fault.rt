@@ -1,6 +1,9 @@
 // Why an ask is refused.
 ghost use Rattle.std.specs.Prelude.{◌≡◌};
 ghost use Rattle.ask.specs.Told.{fault_refusal};
+ghost use Rattle.ask.specs.declared.fault.AskFault.TheVariants.{NoSuchMode};
+
+use grid::NoSuchMode;
 
 #[derive(Clone, Copy, PartialEq, Eq, Debug)]
 pub enum AskFault {
@@ -8,6 +11,14 @@ pub enum AskFault {
     TooFewLimbs,
     // this place is marked, and the batch has no term for it
     PlaceWithoutTerm(u32),
+}
+
+impl From<NoSuchMode> for AskFault {
+    ghost from_gives = { λ _ r. r ≡ NoSuchMode };
+
+    fn from(_fault: NoSuchMode) -> AskFault {
+        AskFault::NoSuchMode
+    }
 }
 
 impl AskFault {

@@ -9,11 +9,11 @@ ghost use Rattle.answers.specs.Trace.{Event, event, history_of, reply_after, Tra
 ghost use Rattle.ask.specs.Told.{published, told};
 
 use crate::answer::Answer;
-use crate::checking::allowed_mode;
+use crate::checking::check;
 use crate::compute::compute;
 use crate::fault::AskFault;
 use batch::Batch;
-use grid::Grid;
+use grid::{Grid, Mode, Rounding};
 use sheet::sheet::SetSheet;
 
 // Sums the terms that the sheet marks, exactly, and rounds the sum once to the grid in the mode of this number. The limbs of the answer are left in `limbs`.
@@ -33,7 +33,8 @@ pub fn ask<B: Batch, G: Grid>(
     ensures answers { (h : List Event) → TracedSet h sheet.now → told result limbs.new ≡ reply_after (history_of h) (asking (question (B.Batch.terms batch.now) (G.Grid.spacing grid.now) (G.Grid.widest grid.now) mode (length limbs.old))) }
     ensures reached { (h : List Event) → TracedSet h sheet.now → TracedSet (h ++ event (asking (question (B.Batch.terms batch.now) (G.Grid.spacing grid.now) (G.Grid.widest grid.now) mode (length limbs.old))) (told result limbs.new) ∷ []) sheet.now }
 {
+    let mode = Mode::try_from(mode)?;
     let marks = sheet.marks();
-    let mode = allowed_mode(marks, batch.count(), grid.width(), mode, limbs.len())?;
-    Ok(compute(marks, batch, grid, mode, limbs))
+    check(marks, batch.count(), grid.width(), limbs.len())?;
+    Ok(compute(marks, batch, Rounding { grid, mode }, limbs))
 }

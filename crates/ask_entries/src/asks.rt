@@ -3,22 +3,13 @@
 
 use crate::show;
 use ask::{ask, ask_both};
-use batch::{Batch, BatchFault};
-use grid::{FreeGrid, Grid, NamedGrid};
+use batch::{Batch, BatchFault, Kind};
+use grid::{Format, FreeGrid, Grid, Mode, NamedGrid};
 use limb_batch::{LimbBatch, LimbRecord};
 use list_batch::{ListBatch, Pair, Scaled};
 use sheet::sheet::{OpenSheet, SetSheet};
+use sheet_lines::{lay, mark, reopen, set, undo};
 use std::io;
-
-// The numbers of the modes that are asked for.
-const NEAREST: u32 = 0;
-
-const DOWNWARD: u32 = 1;
-
-const UPWARD: u32 = 2;
-
-// The number of binary64 among the named grids.
-const BINARY64: u32 = 3;
 
 // Pi in 96 digits, the least significant limb first; 5; 1.
 const POOL: [u32; 5] = [
@@ -35,10 +26,10 @@ fn one<B: Batch, G: Grid>(
     sheet: &SetSheet,
     batch: &B,
     grid: &G,
-    mode: u32,
+    mode: Mode,
 ) -> io::Result<()> {
     let mut limbs = [0u32; 3];
-    let result = ask(sheet, batch, grid, mode, &mut limbs);
+    let result = ask(sheet, batch, grid, mode as u32, &mut limbs);
     print!(rt; "  ask {name}: ")?;
     show::answer(rt, result, &limbs)
 }
@@ -76,7 +67,7 @@ fn on_both_grids<B: Batch, F: Grid, G: Grid>(
         sheet,
         batch,
         binary64,
-        DOWNWARD,
+        Mode::Downward,
     )?;
     one(
         rt,
@@ -84,48 +75,37 @@ fn on_both_grids<B: Batch, F: Grid, G: Grid>(
         sheet,
         batch,
         binary64,
-        UPWARD,
+        Mode::Upward,
     )?;
-    one(rt, "nearest, binary64", sheet, batch, binary64, NEAREST)?;
-    one(rt, "nearest, 24 bits", sheet, batch, single, NEAREST)?;
+    one(rt, "nearest, binary64", sheet, batch, binary64, Mode::Nearest)?;
+    one(rt, "nearest, 24 bits", sheet, batch, single, Mode::Nearest)?;
     neighbours(rt, sheet, batch, single)
 }
 
 // The asks of one entry, on binary64 and on the free grid of 24 bits.
 fn all<B: Batch>(rt: &impl Print, sheet: &SetSheet, batch: &B) -> io::Result<()> {
-    match NamedGrid::new(BINARY64) {
-        Ok(binary64) => with_single(rt, sheet, batch, &binary64),
+    let binary64 = NamedGrid::of(Format::Binary64);
+    match FreeGrid::new(24) {
+        Ok(single) => on_both_grids(rt, sheet, batch, &binary64, &single),
         Err(_) => println!(rt; "  no such grid"),
     }
 }
 
-fn with_single<B: Batch, F: Grid>(
+// The same of a batch that is still to be opened, or why it is refused.
+fn all_of<B: Batch + Drop>(
     rt: &impl Print,
     sheet: &SetSheet,
-    batch: &B,
-    binary64: &F,
+    opened: Result<B, BatchFault>,
 ) -> io::Result<()> {
-    match FreeGrid::new(24) {
-        Ok(single) => on_both_grids(rt, sheet, batch, binary64, &single),
-        Err(_) => println!(rt; "  no such grid"),
+    match opened {
+        Ok(batch) => all(rt, sheet, &batch),
+        Err(fault) => println!(rt; "  refused, {}", fault.number()),
     }
-}
-
-fn mark(rt: &impl Print, sheet: &mut OpenSheet, place: u32, mark: u32) -> io::Result<()> {
-    print!(rt; "  mark {place} {mark}: ")?;
-    show::outcome(rt, sheet.mark(place, mark))
-}
-
-fn set(rt: &impl Print, sheet: OpenSheet) -> io::Result<SetSheet> {
-    println!(rt; "  set")?;
-    let set = sheet.set();
-    show::marks(rt, &set)?;
-    Ok(set)
 }
 
 fn limb_record(exponent: i64, precision: u64, place: usize) -> LimbRecord {
     LimbRecord {
-        kind: 5,
+        kind: Kind::Positive.number(),
         exponent,
         precision,
         place,
@@ -136,8 +116,7 @@ fn limb_record(exponent: i64, precision: u64, place: usize) -> LimbRecord {
 fn mark_first(rt: &impl Print, sheet: &mut OpenSheet) -> io::Result<()> {
     mark(rt, sheet, 0, 1)?;
     mark(rt, sheet, 1, 1)?;
-    print!(rt; "  undo: ")?;
-    show::outcome(rt, sheet.undo())?;
+    undo(rt, sheet)?;
     mark(rt, sheet, 2, 2)
 }
 
@@ -149,31 +128,22 @@ fn limbs(rt: &impl Print) -> io::Result<()> {
         limb_record(41, 3, 3),
         limb_record(-1999, 1, 4),
     ];
-    let (batch, _) = LimbBatch::open(&records, &POOL);
     let mut sheet = OpenSheet::new();
     mark_first(rt, &mut sheet)?;
     let set_sheet = set(rt, sheet)?;
-    all(rt, &set_sheet, &batch)?;
-    println!(rt; "  reopen")?;
-    let mut reopened = set_sheet.reopen();
+    all_of(rt, &set_sheet, LimbBatch::open(&records, &POOL))?;
+    let mut reopened = reopen(rt, set_sheet)?;
     mark(rt, &mut reopened, 1, 1)?;
     let again = set(rt, reopened)?;
-    all(rt, &again, &batch)
+    all_of(rt, &again, LimbBatch::open(&records, &POOL))
 }
 
 // A sheet laid anew, with the first two places in.
 fn laid_anew(rt: &impl Print) -> io::Result<SetSheet> {
-    println!(rt; "  lay")?;
-    let mut sheet = OpenSheet::new();
-    show::marks(rt, &sheet)?;
+    let mut sheet = lay(rt)?;
     mark(rt, &mut sheet, 0, 1)?;
     mark(rt, &mut sheet, 1, 1)?;
     set(rt, sheet)
-}
-
-fn refused(rt: &impl Print, fault: BatchFault) -> io::Result<()> {
-    let number = fault.number();
-    println!(rt; "  refused, {number}")
 }
 
 fn pairs(rt: &impl Print) -> io::Result<()> {
@@ -184,20 +154,14 @@ fn pairs(rt: &impl Print) -> io::Result<()> {
     };
     let rows = [pair.row()];
     let sheet = laid_anew(rt)?;
-    match ListBatch::open(&rows) {
-        Ok(batch) => all(rt, &sheet, &batch),
-        Err(fault) => refused(rt, fault),
-    }
+    all_of(rt, &sheet, ListBatch::open(&rows))
 }
 
 fn scaled(rt: &impl Print) -> io::Result<()> {
     println!(rt; "entry: 5 * 2^38 + 2^-5, from scaled integers")?;
     let records = [Scaled::new(5, 38), Scaled::new(1, -5)];
     let sheet = laid_anew(rt)?;
-    match ListBatch::open(&records) {
-        Ok(batch) => all(rt, &sheet, &batch),
-        Err(fault) => refused(rt, fault),
-    }
+    all_of(rt, &sheet, ListBatch::open(&records))
 }
 
 pub fn walk(rt: &impl Print) -> io::Result<()> {
