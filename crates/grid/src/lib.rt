@@ -16,7 +16,7 @@ pub use floored::FlooredGrid;
 pub use free::FreeGrid;
 pub use interface::{Grid, HIGHEST, LOWEST, nearest_end};
 pub use mode::{Mode, NoSuchMode};
-pub use named::NamedGrid;
+pub use named::{Format, NamedGrid};
 pub use precision::precision_at;
 pub use rounding::Rounding;
 pub use theory::rounding_stands;
