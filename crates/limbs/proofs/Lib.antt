@@ -1,1 +1,2 @@
 pub mod WrittenBits
+pub mod ZeroLimbs

@@ -10,7 +10,7 @@ use crate::magnitude::{LIMB, Magnitude};
 fn limb(limbs: &[u32], i: usize) -> u32
     ensures { result ≡ slice_index limbs.now i }
 {
-    if i < limbs.len() { limbs[i] } else { 0 }
+    limbs.get(i).copied().unwrap_or(0)
 }
 
 // The 32 bits from the bit `at` on: they lie in two limbs.
@@ -43,12 +43,8 @@ pub fn any_below(limbs: &[u32], at: usize) -> bool
     ensures { result ≡ any_below (limbs_value limbs.now) at }
 {
     let whole = at / 32;
-    for j in 0..whole {
-        if limb(limbs, j) != 0 {
-            return true;
-        }
-    }
-    limb(limbs, whole) as u64 % (1u64 << (at % 32)) != 0
+    limbs.iter().take(whole).any(|&limb| limb != 0)
+        || limb(limbs, whole) as u64 % (1 << (at % 32)) != 0
 }
 
 // How many bits the number has. For the rounding of an end, whose limbs are few.
@@ -57,12 +53,8 @@ pub fn bit_length(limbs: &[u32]) -> usize
     ensures is { result ≡ size (limbs_value limbs.now) }
     ensures few { result ≤ 32 * most_limbs }
 {
-    let mut i = limbs.len();
-    while i > 0 {
-        i -= 1;
-        if limbs[i] != 0 {
-            return 32 * i + (32 - limbs[i].leading_zeros() as usize);
-        }
+    match limbs.iter().rposition(|&limb| limb != 0) {
+        Some(i) => 32 * i + (32 - limbs[i].leading_zeros() as usize),
+        None => 0,
     }
-    0
 }

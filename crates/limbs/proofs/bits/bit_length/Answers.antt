@@ -1,36 +1,23 @@
 -- The highest limb that is not 0 has the highest bit.
-use Rattle.std.proofs.Common.{◌≡◌, ℕ, ◌+◌, ◌-◌, length, drop, sym, ap, ◌∙◌, subst, arith}
+use Rattle.std.proofs.Common.{◌≡◌, ℕ, ◌+◌, ◌<◌, ◌≤◌, length, get_or, drop, sym, ap, arith, rules}
+use Rattle.std.proofs.iter.runs.Made.{chains}
 use lib.Ieee.{size}
-use Rattle.std.proofs.lemmas.List.{drop_all, drop_more}
 use Rattle.exact.specs.Limbs.{limbs_value}
 use Rattle.exact.proofs.LimbBits.{size_by_top_limb}
+use Rattle.limbs.proofs.ZeroLimbs.{no_value_from}
 use Rattle.limbs.proofs.bits.bit_length.Goals as goal
 
-pub loop-i-init : goal.loop-i-init
-loop-i-init c = let xs = c.args.limbs.now in (ap limbs_value (drop_all (length xs) xs (omega arith)), omega arith)
-
-pub returns-then-limbs-i-ne0 : goal.returns-then-limbs-i-ne0
-returns-then-limbs-i-ne0 c =
+pub returns-in-Some-clause-is : goal.returns-in-Some-clause-is
+returns-in-Some-clause-is c =
     let xs = c.args.limbs.now in
-    let i = c.loop-i.i - 1 in
-    let e : c.loop-i.i ≡ i + 1 = omega arith in
-    let z : limbs_value (drop (i + 1) xs) ≡ 0 = subst (λ (y : ℕ). limbs_value (drop y xs) ≡ 0) e c.loop-i.invariant.0 in
-    record {
-      is = sym (size_by_top_limb xs i (λ i l. (c.type_inv.limbs i).fits) (omega arith) z (omega arith));
-      few = omega (arith, c.loop-i.invariant.1);
-    }
+    let i = c.in-Some.i in
+    let inside : i < length xs = search rules in
+    let some : 0 < get_or xs i 0 = search (rules, chains) in
+    let none : (k : ℕ) → i + 1 ≤ k → k < length xs → get_or xs k 0 ≡ 0 = search (rules, chains) in
+    sym (size_by_top_limb xs i (λ k l. (c.type_inv.limbs k).fits) inside (no_value_from (i + 1) xs none) some)
 
-pub loop-i-preserved : goal.loop-i-preserved
-loop-i-preserved c =
-    let xs = c.args.limbs.now in
-    let i = c.loop-i.i - 1 in
-    let e : c.loop-i.i ≡ i + 1 = omega arith in
-    let z : limbs_value (drop (i + 1) xs) ≡ 0 = subst (λ (y : ℕ). limbs_value (drop y xs) ≡ 0) e c.loop-i.invariant.0 in
-    (ap limbs_value (drop_more xs i 0 (omega arith)) ∙ omega arith, omega (arith, c.loop-i.invariant.1))
-
-pub returns : goal.returns
+pub returns-in-None-clause-is : goal.returns-in-None-clause-is
 unfolding size
-returns c =
-    let xs = c.args.limbs.now in
-    let z : limbs_value xs ≡ 0 = subst (λ (y : ℕ). limbs_value (drop y xs) ≡ 0) (let e : c.loop-i.i ≡ 0 = omega arith in e) c.loop-i.invariant.0 in
-    record { is = ap size (sym z); few = omega arith }
+returns-in-None-clause-is c =
+    let none : (k : ℕ) → 0 ≤ k → k < length c.args.limbs.now → get_or c.args.limbs.now k 0 ≡ 0 = search (rules, chains) in
+    ap size (sym (no_value_from 0 c.args.limbs.now none))

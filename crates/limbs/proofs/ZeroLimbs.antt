@@ -1,0 +1,24 @@
+-- Limbs that are 0.
+use Rattle.std.proofs.Common.{◌≡◌, ℕ, zero, suc, ◌-◌, ◌<◌, ◌≤◌, List, [], ◌∷◌, length, get_or, drop, refl, inl, inr, eq-zero-or-pos, arith}
+use Rattle.std.proofs.lemmas.List.{get_or_past}
+use Rattle.exact.specs.Limbs.{limbs_value}
+
+no_value : (xs : List ℕ) → ((k : ℕ) → k < length xs → get_or xs k 0 ≡ 0) → limbs_value xs ≡ 0
+no_value [] none = refl
+no_value (x ∷ xs) none =
+    let first : x ≡ 0 = none 0 (omega arith) in
+    let rest = no_value xs (λ k l. none (suc k) (omega arith)) in
+    omega arith
+
+-- with nothing from limb i on
+pub no_value_from : (i : ℕ) (xs : List ℕ) → ((k : ℕ) → i ≤ k → k < length xs → get_or xs k 0 ≡ 0) → limbs_value (drop i xs) ≡ 0
+no_value_from zero xs none = no_value xs (λ k l. none k (omega arith) l)
+no_value_from (suc i) [] none = refl
+no_value_from (suc i) (x ∷ xs) none = no_value_from i xs (λ k h l. none (suc k) (omega arith) (omega arith))
+
+-- past the last limb there is nothing
+pub zero_past : (xs : List ℕ) (i : ℕ) → ((k : ℕ) → k < i → k < length xs → get_or xs k 0 ≡ 0) → (k : ℕ) → k < i → get_or xs k 0 ≡ 0
+zero_past xs i none k h = elim (eq-zero-or-pos (length xs - k)) [
+  | inl z ↦ get_or_past xs k 0 (omega arith)
+  | inr p ↦ none k h (omega arith)
+]
