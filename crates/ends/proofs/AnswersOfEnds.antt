@@ -73,7 +73,8 @@ power_placed u e p a h q i =
 of_extent : (u : ℤ → ℤ) (m : Mode) (s part : Bool) (n : ℕ) (w : ℤ) (x : Extent) (e : ℤ) (p a : ℕ) (t d : Direction) → x.exponent ≡ e → x.precision ≡ p → d ≡ t
     → Answered u m s part n w (Some (record { exponent = e; precision = p })) (direction_sign t) a → Answered u m s part n w (Some x) (direction_sign d) a
 of_extent u m s part n w x e p a t d ee pp dd A =
-    let is : ◌≡◌ {A = Extent} (record { exponent = e; precision = p }) x = cc in
+    let of : ℤ → ℕ → Extent = λ y q. record { exponent = y; precision = q } in
+    let is : of e p ≡ x = ap (λ (y : ℤ). of y p) (sym ee) ∙ ap (of x.exponent) (sym pp) in
     rw dd (subst (λ (y : Extent). Answered u m s part n w (Some y) (direction_sign t) a) is A)
 
 -- ---- an end of exponent e, where the spacing is v

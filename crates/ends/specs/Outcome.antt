@@ -1,5 +1,5 @@
 -- What rounding an end must tell, and leave in the answer's limbs.
-use Rattle.std.specs.Prelude.{◌≡◌, ℕ, ◌-◌, ◌*◌, ◌^◌, ◌<◌, ◌≤◌, Bool, true, false, List, ℤ, pos, ◌+ℤ◌, ◌-ℤ◌, ◌≤ℤ◌, ◌<ℤ◌, Some, None, Option, slice_index}
+use Rattle.std.specs.Prelude.{◌≡◌, ℕ, ◌-◌, ◌*◌, ◌^◌, ◌<◌, ◌≤◌, Bool, true, List, ℤ, pos, ◌+ℤ◌, ◌-ℤ◌, ◌≤ℤ◌, ◌<ℤ◌, Some, None, Option, slice_index}
 use Rattle.exact.specs.Integers.{signed}
 use Rattle.exact.specs.Dyadic.{Dyadic, dyadic}
 use Rattle.grid.specs.Rounding.{Mode, Answer, rounded, Alike}

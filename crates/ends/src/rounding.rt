@@ -12,8 +12,8 @@ ghost use Rattle.ends.specs.Steps.{Decided, NoneKept, SomeKept};
 use crate::decision::{Decision, decide};
 use crate::end::End;
 use crate::rounded_end::{Extent, RoundedEnd};
-use grid::{Grid, Mode};
-use limbs::{bit_length, write_power, write_rounded};
+use grid::{Grid, Mode, Rounding};
+use limbs::{BoundedLimbs, bit_length, write_power, write_rounded};
 
 // How far apart two integers are: in 64 bits no difference wraps.
 fn distance(high: i32, low: i32) -> usize
@@ -44,13 +44,7 @@ fn decide_at(end: End, place: Place, mode: Mode) -> Decision
             inexact: false,
         };
     }
-    decide(
-        end.whole,
-        distance(place.unit, place.base) - 1,
-        end.partial,
-        end.negative,
-        mode,
-    )
+    decide(end, distance(place.unit, place.base) - 1, mode)
 }
 
 // The answer where the number lies below the spacing: 0 or one step of the grid.
@@ -72,18 +66,17 @@ fn none_kept(unit: i32, raise: bool, answer: &mut [u32]) -> Option<Extent>
 }
 
 // The answer where some bits are kept. Raised they may carry to 2 ^ exponent, which has as many bits as the next spacing leaves.
-fn some_kept(limbs: &[u32], place: Place, raise: bool, answer: &mut [u32]) -> Extent
-    requires short { limbs_value limbs.now < 2 ^ place.bits }
+fn some_kept(number: BoundedLimbs, place: Place, raise: bool, answer: &mut [u32]) -> Extent
     requires some { place.unit <ℤ place.exponent }
     requires inside { place.next ≤ℤ place.exponent }
     requires fits { place.exponent ≤ℤ (place.unit +ℤ pos (32 * length answer.old)) }
     requires next { (place.exponent +ℤ pos 1) ≤ℤ (place.next +ℤ pos (32 * length answer.old)) }
     requires few { length answer.old ≤ most_limbs }
     requires cap { place.exponent <ℤ highest }
-    ensures { (p q : ℕ) → place.exponent ≡ place.unit +ℤ pos p → (place.exponent +ℤ pos 1) ≡ place.next +ℤ pos q → SomeKept (limbs_value limbs.now * 2 ^ p / 2 ^ place.bits + bit raise) place.exponent p q result (limbs_value answer.new) }
+    ensures { (p q : ℕ) → place.exponent ≡ place.unit +ℤ pos p → (place.exponent +ℤ pos 1) ≡ place.next +ℤ pos q → SomeKept (limbs_value number.entry.limbs.now * 2 ^ p / 2 ^ number.entry.bits + bit raise) place.exponent p q result (limbs_value answer.new) }
 {
     let precision = distance(place.exponent, place.unit);
-    if !write_rounded(limbs, place.bits, precision, raise, answer) {
+    if !write_rounded(number, precision, raise, answer) {
         return Extent {
             exponent: place.exponent,
             precision: precision as u32,
@@ -91,7 +84,7 @@ fn some_kept(limbs: &[u32], place: Place, raise: bool, answer: &mut [u32]) -> Ex
     }
     let exponent = place.exponent + 1;
     let precision = distance(exponent, place.next);
-    write_power(precision.div_ceil(32), answer);
+    write_power((precision + 31) / 32, answer);
     Extent {
         exponent,
         precision: precision as u32,
@@ -118,7 +111,11 @@ fn round_at(end: End, place: Place, mode: Mode, answer: &mut [u32]) -> RoundedEn
     let extent = if place.exponent <= place.unit {
         none_kept(place.unit, decision.raise, answer)
     } else {
-        Some(some_kept(end.whole, place, decision.raise, answer))
+        let number = BoundedLimbs {
+            limbs: end.whole,
+            bits: place.bits,
+        };
+        Some(some_kept(number, place, decision.raise, answer))
     };
     RoundedEnd {
         negative: end.negative,
@@ -141,25 +138,25 @@ fn exponent_of(column: i32, bits: usize) -> i32
 
 // Rounds an end: each number that it stands for rounds to the answer. None where a part is left over and the spacing is no more than a unit.
 // For the ask, which meets the bounds: few limbs, columns within those of its terms, room for the width of the grid, and an exact zero told before.
-pub fn round_end<G: Grid>(end: End, grid: &G, mode: Mode, answer: &mut [u32]) -> Option<RoundedEnd>
+pub fn round_end<G: Grid>(end: End, rounding: Rounding<G>, answer: &mut [u32]) -> Option<RoundedEnd>
     requires whole { length end.whole.now ≤ most_limbs }
     requires few { length answer.old ≤ most_limbs }
-    requires room { G.widest grid.now ≤ 32 * length answer.old }
+    requires room { G.widest rounding.grid.now ≤ 32 * length answer.old }
     requires from { neg_ℤ (pos furthest_column) ≤ℤ end.column }
     requires upto { end.column ≤ℤ pos furthest_column }
     requires nonzero { end.partial ≡ false → 0 < limbs_value end.whole.now }
-    ensures outcome { Outcome (G.spacing grid.now) (mode_of mode) end.entry.negative end.entry.partial (limbs_value end.entry.whole.now) (pos 32 *ℤ end.entry.column) result (limbs_value answer.new) }
-    ensures undetermined { Undetermined (G.spacing grid.now) end.entry.negative end.entry.partial (limbs_value end.entry.whole.now) (pos 32 *ℤ end.entry.column) result }
+    ensures outcome { Outcome (G.spacing rounding.entry.grid.now) (mode_of rounding.entry.mode) end.entry.negative end.entry.partial (limbs_value end.entry.whole.now) (pos 32 *ℤ end.entry.column) result (limbs_value answer.new) }
+    ensures undetermined { Undetermined (G.spacing rounding.entry.grid.now) end.entry.negative end.entry.partial (limbs_value end.entry.whole.now) (pos 32 *ℤ end.entry.column) result }
     ensures unused { Unused result answer.old answer.new }
 {
     let bits = bit_length(end.whole);
     let base = exponent_of(end.column, 0);
     let exponent = exponent_of(end.column, bits);
-    let unit = grid.spacing(exponent);
+    let unit = rounding.grid.spacing(exponent);
     if end.partial && unit <= base {
         return None;
     }
-    let next = grid.spacing(exponent + 1);
+    let next = rounding.grid.spacing(exponent + 1);
     let place = Place {
         base,
         bits,
@@ -167,5 +164,5 @@ pub fn round_end<G: Grid>(end: End, grid: &G, mode: Mode, answer: &mut [u32]) ->
         unit,
         next,
     };
-    Some(round_at(end, place, mode, answer))
+    Some(round_at(end, place, rounding.mode, answer))
 }

@@ -11,8 +11,8 @@ use Rattle.ends.specs.Steps.{NoneKept, SomeKept}
 use Rattle.ends.proofs.AnswersOfEnds.{none_kept_right, some_kept_right}
 use Rattle.ends.proofs.rounding.round_at.Goals as goal
 
-pub some_kept-requires-clause-short : goal.some_kept-requires-clause-short
-some_kept-requires-clause-short c = subst (λ (y : ℕ). limbs_value c.args.end.whole.now < 2 ^ y) (sym c.requires.bits) (size-lt (limbs_value c.args.end.whole.now))
+pub invariant_of-number : goal.invariant_of-number
+invariant_of-number c = record { short = subst (λ (y : ℕ). limbs_value c.args.end.whole.now < 2 ^ y) (sym c.requires.bits) (size-lt (limbs_value c.args.end.whole.now)) }
 
 pub returns-then-place : goal.returns-then-place
 returns-then-place c = λ u W L vv xx.
@@ -27,8 +27,8 @@ returns-then-place c = λ u W L vv xx.
     let h : NoneKept place.unit decision.raise r a = subst (λ (y : ℤ). NoneKept y decision.raise r a) U c.none_kept-extent.ensures in (
       refl,
       none_kept_right u (laws_everywhere u W L) (mode_of c.args.mode) c.args.end.negative c.args.end.partial n place.base place.exponent place.unit decision.raise decision.inexact
-      (c.requires.exponent ∙ ap (λ (y : ℕ). place.base +ℤ pos y) c.requires.bits) vv c.requires.nonzero c.requires.determined c.decide_at-decision.ensures
-      (omega (arith, ints, c.if-place.true)) r a c.direction-direction.result c.direction-direction.ensures h,
+          (c.requires.exponent ∙ ap (λ (y : ℕ). place.base +ℤ pos y) c.requires.bits) vv c.requires.nonzero c.requires.determined c.decide_at-decision.ensures
+          (omega (arith, ints, c.if-place.true)) r a c.direction-direction.result c.direction-direction.ensures h,
     )
 
 pub returns-else-place : goal.returns-else-place
@@ -49,7 +49,7 @@ returns-else-place c = λ u W L vv xx.
     let h = c.some_kept.ensures p q pp qq in (
       refl,
       some_kept_right u (laws_everywhere u W L) (mode_of c.args.mode) c.args.end.negative c.args.end.partial n place.base place.exponent place.unit decision.raise decision.inexact
-      (c.requires.exponent ∙ ap (λ (y : ℕ). place.base +ℤ pos y) c.requires.bits) vv c.requires.nonzero c.requires.determined c.decide_at-decision.ensures
-      p q pp (omega (arith, ints)) (qq ∙ ap (λ (y : ℤ). y +ℤ pos q) xx) r a c.direction-direction.result c.direction-direction.ensures
-      (subst (λ (y : ℕ). SomeKept (n * 2 ^ p / 2 ^ y + bit decision.raise) place.exponent p q r a) c.requires.bits h),
+          (c.requires.exponent ∙ ap (λ (y : ℕ). place.base +ℤ pos y) c.requires.bits) vv c.requires.nonzero c.requires.determined c.decide_at-decision.ensures
+          p q pp (omega (arith, ints)) (qq ∙ ap (λ (y : ℤ). y +ℤ pos q) xx) r a c.direction-direction.result c.direction-direction.ensures
+          (subst (λ (y : ℕ). SomeKept (n * 2 ^ p / 2 ^ y + bit decision.raise) place.exponent p q r a) c.requires.bits h),
     )

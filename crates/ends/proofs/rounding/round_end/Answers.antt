@@ -14,9 +14,12 @@ use Rattle.ends.proofs.AnswersOfEnds.{laws_there, unused_limbs}
 use Rattle.ends.proofs.rounding.round_end.Goals as goal
 use Rattle.ends.proofs.rounding.round_end.Goals.{else-end-via-then-end+else-unit-base, else-end-via-else-end}
 
+same_order : (e v x f w y : ℤ) → f ≡ e → w ≡ v → y ≡ x → (v <ℤ e → x ≤ℤ e) → w <ℤ f → y ≤ℤ f
+same_order e v x f w y a b c h = rw (a, b, c) h
+
 pub round_at-requires : goal.round_at-requires
 round_at-requires g c =
-    let s = c.args.grid.now in
+    let s = c.args.rounding.grid.now in
     let u = g.G.Grid.spacing s in
     let L = g.G.Grid.lawful s in
     let w = c.exponent_of-base.result in
@@ -39,7 +42,7 @@ round_at-requires g c =
       exponent = omega (arith, ints, c.exponent_of-exponent.ensures.is, c.exponent_of-base.ensures.is);
       cap = omega (arith, ints, c.exponent_of-exponent.ensures.upto);
       unit = omega (arith, ints, cap, V);
-      inside = λ l. let m = f.0 (omega (arith, ints, l)) in omega (arith, ints, m);
+      inside = same_order e v x _ _ _ E (to_z-of_z w32 v vf) (to_z-of_z w32 x xf) f.0;
       fits = omega (arith, ints, f.1);
       next = omega (arith, ints, f.2);
       some = omega (arith, c.requires.room, L.width_low);
@@ -53,7 +56,7 @@ round_at-requires g c =
 
 pub returns-then-unit-base : goal.returns-then-unit-base
 returns-then-unit-base g c =
-    let s = c.args.grid.now in
+    let s = c.args.rounding.grid.now in
     let u = g.G.Grid.spacing s in
     let n = limbs_value c.args.end.whole.now in
     let w = c.exponent_of-base.result in
@@ -75,11 +78,11 @@ returns-then-unit-base g c =
 
 pub returns : goal.returns
 returns g c =
-    let s = c.args.grid.now in
+    let s = c.args.rounding.grid.now in
     let u = g.G.Grid.spacing s in
     let L = g.G.Grid.lawful s in
     let n = limbs_value c.args.end.whole.now in
-    let m = mode_of c.args.mode in
+    let m = mode_of c.args.rounding.mode in
     let w = c.exponent_of-base.result in
     let e = c.exponent_of-exponent.result in
     let v = c.spacing-unit.result in

@@ -8,7 +8,7 @@ use Rattle.ends.proofs.rounding.some_kept.Goals as goal
 pub returns-then-not-write_rounded : goal.returns-then-not-write_rounded
 returns-then-not-write_rounded c = λ p q pp qq.
     let place = c.args.place in
-    let n = limbs_value c.args.limbs.now in
+    let n = limbs_value c.args.number.limbs.now in
     let a = limbs_value c.write_rounded.new.answer in
     let unit : SFits w32 place.unit = search rules in
     let here : SFits w32 place.exponent = search rules in
@@ -17,23 +17,23 @@ returns-then-not-write_rounded c = λ p q pp qq.
     inl (
       to_z-of_z w32 place.exponent here,
       kept,
-      subst (λ (y : ℕ). a ≡ (n * 2 ^ y / 2 ^ place.bits + bit c.args.raise) * 2 ^ (32 * limbs_for y - y)) kept w.0,
-      subst (λ (y : ℕ). n * 2 ^ y / 2 ^ place.bits + bit c.args.raise < 2 ^ y) kept w.1,
+      subst (λ (y : ℕ). a ≡ (n * 2 ^ y / 2 ^ c.args.number.bits + bit c.args.raise) * 2 ^ (32 * limbs_for y - y)) kept w.0,
+      subst (λ (y : ℕ). n * 2 ^ y / 2 ^ c.args.number.bits + bit c.args.raise < 2 ^ y) kept w.1,
     )
 
 pub returns : goal.returns
 returns c = λ p q pp qq.
     let place = c.args.place in
-    let n = limbs_value c.args.limbs.now in
+    let n = limbs_value c.args.number.limbs.now in
     let unit : SFits w32 place.unit = search rules in
     let next : SFits w32 place.next = search rules in
     let here : SFits w32 place.exponent = search rules in
     let e : to_z w32 (of_z w32 (to_z w32 (of_z w32 place.exponent) +ℤ pos 1)) ≡ place.exponent +ℤ pos 1 = omega (arith, ints, c.requires.cap) in
     let kept : c.distance-precision.result ≡ p = omega (arith, ints, c.distance-precision.ensures.is) in
-    let after : c.distance-precision-else-not-write_rounded.result ≡ q = omega (arith, ints, c.distance-precision-else-not-write_rounded.ensures.is, c.requires.cap) in
+    let after : c.distance-precision-2.result ≡ q = omega (arith, ints, c.distance-precision-2.ensures.is, c.requires.cap) in
     inr (
       e,
       after,
       c.write_power.ensures ∙ ap (λ (y : ℕ). 2 ^ (32 * limbs_for y) / 2) after,
-      subst (λ (y : ℕ). n * 2 ^ y / 2 ^ place.bits + bit c.args.raise ≡ 2 ^ y) kept c.if-not-write_rounded.ensures,
+      subst (λ (y : ℕ). n * 2 ^ y / 2 ^ c.args.number.bits + bit c.args.raise ≡ 2 ^ y) kept c.if-not-write_rounded.ensures,
     )
