@@ -13,7 +13,7 @@ use Rattle.grid.proofs.Outcomes.{exact}
 use Rattle.grid.proofs.Theorems.{right}
 use Rattle.limbs.specs.Bits.{limbs_for}
 use Rattle.batch.specs.Term.{Term, Batchable}
-use Rattle.batch.specs.TermKinds.{kind_number}
+use Rattle.batch.specs.TermKinds.{kind_number, zero_of_sign}
 use Rattle.batch.specs.declared.kind.Kind.{Kind}
 use Rattle.sheet.specs.declared.mark.Mark.{Mark}
 use Rattle.column.specs.Parts.{exact_sum}
@@ -23,7 +23,7 @@ use Rattle.column.proofs.Ranges.{sum_close}
 use Rattle.survey.specs.Kinds.{class_of_sum, zero_negative, has, counted_kinds}
 use Rattle.survey.specs.declared.class.SumClass.{SumClass}
 use Rattle.survey.specs.declared.class.SumClass.TheVariants.{Number}
-use Rattle.answers.specs.Published.{Published, plain, is_zero, is_downward, zero_of_sign, regular_answer, rounded_answer, finite_answer, answer_of_class, answer}
+use Rattle.answers.specs.Published.{Published, plain, is_zero, is_downward, regular_answer, rounded_answer, finite_answer, answer_of_class, answer}
 use Rattle.answers.specs.Laws.{answer_value}
 use Rattle.answers.proofs.Equals.{wanted_on}
 use Rattle.answers.proofs.LimbLists.{value_of_none}

@@ -15,8 +15,8 @@ use Rattle.exact.proofs.Order.{≈ᴰ_trans}
 use Rattle.exact.proofs.Units.{other_units}
 use Rattle.limbs.specs.Bits.{limbs_for}
 use Rattle.batch.specs.Term.{whole_units}
-use Rattle.batch.specs.TermKinds.{kind_number}
-use Rattle.answers.specs.Published.{number_of_sign, regular_answer, limbs_of}
+use Rattle.batch.specs.TermKinds.{kind_number, number_of_sign}
+use Rattle.answers.specs.Published.{regular_answer, limbs_of}
 use Rattle.answers.specs.Laws.{answer_value}
 use Rattle.answers.proofs.LimbLists.{value_of_limbs}
 

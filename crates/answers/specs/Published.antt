@@ -5,9 +5,9 @@ use Rattle.exact.specs.Dyadic.{Dyadic, exponent}
 use Rattle.grid.specs.Rounding.{Mode, nearest, downward, upward, toward_zero, away_from_zero, Answer, rounded}
 use Rattle.limbs.specs.Bits.{limbs_for}
 use Rattle.batch.specs.Term.{Term, whole_units}
-use Rattle.batch.specs.TermKinds.{kind_number}
+use Rattle.batch.specs.TermKinds.{kind_number, infinity, zero_of_sign, number_of_sign}
 use Rattle.batch.specs.declared.kind.Kind.{Kind}
-use Rattle.batch.specs.declared.kind.Kind.TheVariants.{NotANumber, PositiveInfinity, NegativeInfinity, PositiveZero, NegativeZero, Positive, Negative}
+use Rattle.batch.specs.declared.kind.Kind.TheVariants.{NotANumber}
 use Rattle.sheet.specs.declared.mark.Mark.{Mark}
 use Rattle.column.specs.Parts.{Part, exact_sum}
 use Rattle.column.specs.PartsOf.{parts_of}
@@ -34,16 +34,6 @@ limbs_of (suc n) v = v % 2 ^ 32 ∷ limbs_of n (v / 2 ^ 32)
 -- an answer that is not regular: its exponent, precision and limbs are 0
 abbrev pub plain : Kind → ℤ → ℕ → ℕ → Published
 plain k direction depth room = record { kind = kind_number k; exponent = pos 0; precision = 0; direction = direction; depth = depth; limbs = limbs_of room 0 }
-
--- the kinds of a sign
-abbrev pub infinity : Bool → Kind
-infinity negative = cond negative NegativeInfinity PositiveInfinity
-
-abbrev pub zero_of_sign : Bool → Kind
-zero_of_sign negative = cond negative NegativeZero PositiveZero
-
-abbrev pub number_of_sign : Bool → Kind
-number_of_sign negative = cond negative Negative Positive
 
 -- the grid number v, which is not 0, as an answer: e is its exponent, and it has e - u(e) bits
 abbrev pub regular_answer : (ℤ → ℤ) → Dyadic → ℤ → ℕ → ℕ → Published

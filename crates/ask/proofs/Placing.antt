@@ -18,12 +18,12 @@ use Rattle.ends.specs.Directions.{direction_sign}
 use Rattle.ends.specs.declared.direction.Direction.TheVariants.{Exact}
 use Rattle.ends.specs.declared.rounded_end.RoundedEnd.{RoundedEnd}
 use Rattle.batch.specs.Term.{whole_units}
-use Rattle.batch.specs.TermKinds.{kind_number}
+use Rattle.batch.specs.TermKinds.{kind_number, zero_of_sign, number_of_sign}
 use Rattle.column.specs.Parts.{Part, exact_sum}
 use Rattle.column.specs.Columns.{columns}
 use Rattle.column.specs.Depth.{depth}
 use Rattle.depth.specs.Rounded.{RoundedTo}
-use Rattle.answers.specs.Published.{Published, is_zero, plain, limbs_of, zero_of_sign, number_of_sign, sum_answer}
+use Rattle.answers.specs.Published.{Published, is_zero, plain, limbs_of, sum_answer}
 use Rattle.answers.proofs.Values.{units_≈}
 
 -- ---- a significand of p bits at the top of its limbs

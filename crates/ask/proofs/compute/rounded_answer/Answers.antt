@@ -3,12 +3,12 @@ use Rattle.std.proofs.Common.{◌≡◌, Bool, ◌⊎◌, length, pos, sym, refl
 use Rattle.std.proofs.lemmas.Int.{ints, to_z-of_z}
 use Rattle.std.proofs.lemmas.Bool.{not-true, not-false}
 use Rattle.exact.specs.Limbs.{limbs_value}
-use Rattle.batch.specs.TermKinds.{kind_number}
+use Rattle.batch.specs.TermKinds.{kind_number, zero_of_sign}
 use Rattle.batch.specs.declared.kind.Kind.{Kind}
 use Rattle.ends.specs.Directions.{direction_sign}
 use Rattle.ends.specs.declared.direction.Direction.{Direction}
 use Rattle.ends.specs.declared.direction.Direction.TheVariants.{Below, Above}
-use Rattle.answers.specs.Published.{plain, zero_of_sign}
+use Rattle.answers.specs.Published.{plain}
 use Rattle.ask.proofs.Placing.{answer_of_number, answer_of_exact_zero, answer_of_inexact_zero, published_alike}
 use Rattle.ask.proofs.compute.rounded_answer.Goals as goal
 use Rattle.ask.proofs.compute.rounded_answer.Goals.{in-Exact, in-Below}
