@@ -1,7 +1,4 @@
 // A case read from its line.
-ghost use Rattle.std.specs.Prelude.{◌≡◌};
-ghost use Rattle.batch.specs.TermKinds.{kind_is_regular, kind_numbered};
-
 use crate::case::Case;
 use crate::words::Words;
 use anyhow::anyhow;
@@ -15,28 +12,21 @@ const MOST_READ: u32 = 1025;
 // A precision for which limbs are read; a batch refuses those above 4,096.
 const MOST_DIGITS: u32 = 8192;
 
-// Does a term of the kind with this number have limbs?
-fn has_limbs(kind: u32) -> bool
-    ensures { result ≡ kind_is_regular (kind_numbered kind) }
-{
-    Kind::numbered(kind).is_regular()
-}
-
 // Reads the limbs of a significand into the pool.
 fn read_limbs(words: &mut Words<'_>, precision: u32, pool: &mut Vec<u32>) -> anyhow::Result<()> {
     if precision > MOST_DIGITS {
         return Err(anyhow!("more digits than are read"));
     }
-    for _ in 0..(precision + 31) / 32 {
+    for _ in 0..precision.div_ceil(32) {
         pool.push(words.limb()?)?;
     }
     Ok(())
 }
 
 fn read_term(words: &mut Words<'_>, pool: &mut Vec<u32>) -> anyhow::Result<LimbRecord> {
-    let kind = words.number()?;
+    let kind = words.number::<u32>()?;
     let place = pool.len();
-    if !has_limbs(kind) {
+    if !Kind::from(kind).is_regular() {
         return Ok(LimbRecord {
             kind,
             exponent: 0,
@@ -44,8 +34,8 @@ fn read_term(words: &mut Words<'_>, pool: &mut Vec<u32>) -> anyhow::Result<LimbR
             place,
         });
     }
-    let exponent = words.signed_number()?;
-    let precision = words.number()?;
+    let exponent = words.number::<i64>()?;
+    let precision = words.number::<u32>()?;
     read_limbs(words, precision, pool)?;
     Ok(LimbRecord {
         kind,
@@ -57,8 +47,8 @@ fn read_term(words: &mut Words<'_>, pool: &mut Vec<u32>) -> anyhow::Result<LimbR
 
 pub fn read_case(heap: Global, line: &str) -> anyhow::Result<Case> {
     let mut words = Words::new(line);
-    let mode = words.number()?;
-    let width = words.number()?;
+    let mode = words.number::<u32>()?;
+    let width = words.number::<u32>()?;
     let mut records = Vec::new(heap);
     let mut pool = Vec::new(heap);
     for _ in 0..MOST_READ {

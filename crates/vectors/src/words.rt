@@ -1,6 +1,9 @@
 // The words of a line, taken one by one from the front.
 ghost use Rattle.std.specs.Prelude.{◌≡◌, ◌+◌, ◌≤◌, length, take, ◌==◌};
 
+use std::num::ParseIntError;
+use std::str::FromStr;
+
 #[derive(Drop)]
 pub struct Words<'a> {
     rest: &'a str,
@@ -37,14 +40,12 @@ impl<'a> Words<'a> {
         }
     }
 
-    pub fn number(&mut self) -> anyhow::Result<u32> {
-        Ok(self.next().parse::<u32>()?)
+    // The next word as a decimal number.
+    pub fn number<N: FromStr<Err = ParseIntError>>(&mut self) -> anyhow::Result<N> {
+        Ok(self.next().parse::<N>()?)
     }
 
-    pub fn signed_number(&mut self) -> anyhow::Result<i64> {
-        Ok(self.next().parse::<i64>()?)
-    }
-
+    // The next word as a hexadecimal limb.
     pub fn limb(&mut self) -> anyhow::Result<u32> {
         Ok(u32::from_str_radix(self.next(), 16)?)
     }
