@@ -10,9 +10,6 @@ pub ≤ℤ_antisymm : (x y : ℤ) → x ≤ℤ y → y ≤ℤ x → x ≡ y
 pub abs_neg : (n : ℕ) → nat_abs (neg_ℤ (pos n)) ≡ n
 abs_neg n = omega (arith, ints)
 
-pub abs_negℤ : (x : ℤ) → nat_abs (neg_ℤ x) ≡ nat_abs x
-abs_negℤ x = omega (arith, ints)
-
 pub neg_mono : (m n : ℕ) → m ≤ n → neg_ℤ (pos n) ≤ℤ neg_ℤ (pos m)
 neg_mono m n h = omega (arith, ints)
 

@@ -23,16 +23,10 @@ pub multiple_ge : (n d : ℕ) → n % d ≡ 0 → 0 < n → d ≤ n
 multiple_ge n d e h = le_of_suc-le-suc (lt_of_not-le (λ (g : suc n ≤ d). let q : n ≡ 0 = sym (mod-eq_of_lt g) ∙ e in omega arith))
 
 -- ---- the greatest multiple up to n
-pub cut_le : (n d : ℕ) → n / d * d ≤ n
-cut_le n d = div-mul-le_self n d
-
 pub le_cut : (n d g : ℕ) → 0 < d → g % d ≡ 0 → g ≤ n → g ≤ n / d * d
 le_cut n d g D e h =
     let q : g / d ≤ n / d = (le-div_iff_mul-le D).1 (omega (arith, multiple_whole g d e)) in
     omega (arith, multiple_whole g d e, mul-le-mul_right d q)
-
-pub cut_above : (n d : ℕ) → 0 < d → n < n / d * d + d
-cut_above n d D = lt-div-mul-add {a = n} D
 
 -- ---- the least multiple from n on
 pub away_ge : (n d : ℕ) → 0 < d → n ≤ (n + (d - 1)) / d * d

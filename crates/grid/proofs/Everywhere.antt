@@ -15,9 +15,6 @@ nearest_end_low e h = omega (arith, ints, clamps)
 pub nearest_end_high : (e : ℤ) → highest ≤ℤ e → nearest_end e ≡ highest
 nearest_end_high e h = omega (arith, ints, clamps)
 
-pub nearest_end_in : (e : ℤ) → InRange e → nearest_end e ≡ e
-nearest_end_in e r = omega (arith, ints, clamps)
-
 pub nearest_end_range : (e : ℤ) → InRange (nearest_end e)
 nearest_end_range e = record { from = omega (arith, ints, clamps); upto = omega (arith, ints, clamps) }
 

@@ -1,10 +1,10 @@
 -- A finer weight changes no rounding: n * 2 ^ d at spacing k + d is n at spacing k, times 2 ^ d.
-use Rattle.std.proofs.Common.{◌≡◌, ℕ, ◌+◌, ◌-◌, ◌*◌, ◌/◌, ◌%◌, ◌^◌, ◌<◌, ◌≤◌, sym, ap, ◌∙◌, le_trans, le_of_lt, mul-le-mul_right, mul_assoc, mul_comm, le_antisymm, mul-pos, div-mul-le_self, le_of_mul-le-mul_right, arith, pow_pos, pow_mono, pow-add}
+use Rattle.std.proofs.Common.{◌≡◌, ℕ, ◌+◌, ◌-◌, ◌*◌, ◌/◌, ◌%◌, ◌^◌, ◌<◌, ◌≤◌, sym, ap, ◌∙◌, le_trans, le_of_lt, mul-le-mul_right, mul_assoc, mul_comm, le_antisymm, mul-pos, div-mul-le_self, le_of_mul-le-mul_right, arith, pow_pos, pow_mono, pow-add, div-mul-le_self}
 use native.Mathlib.Nat.{mul-div-mul_right, mul-mod_left, div-eq_of_lt-le}
 use lib.Ieee.{size}
 use lib.Ieee.Digits.{size-lt}
 use lib.Ieee.Nearest.{closest, closest_same}
-use Rattle.exact.proofs.Multiples.{multiple_whole, cut_le, away_ge, away_le}
+use Rattle.exact.proofs.Multiples.{multiple_whole, away_ge, away_le}
 use Rattle.exact.proofs.Halves.{near_le, closest_exact}
 use Rattle.grid.specs.Rounding.{Way, near, cut, away, whole, multiple}
 
@@ -33,7 +33,7 @@ multiple_scale w k n d =
 -- ---- a rounded number is at most 2 ^ (size - k) steps of 2 ^ k
 whole_le_away : (w : Way) (n d : ℕ) → 0 < d → whole w n d * d ≤ (n + (d - 1)) / d * d
 whole_le_away near n d D = near_le n d D
-whole_le_away cut n d D = le_trans (cut_le n d) (away_ge n d D)
+whole_le_away cut n d D = le_trans (div-mul-le_self n d) (away_ge n d D)
 whole_le_away away n d D = omega arith
 
 pub whole_le : (w : Way) (k n : ℕ) → whole w n (2 ^ k) ≤ 2 ^ (size n - k)

@@ -1,7 +1,5 @@
 -- What an answer says of the number rounded: itself where that is on the grid, and else on which side of it the answer lies.
-use Rattle.std.proofs.Common.{◌≡◌, ℕ, suc, ◌+◌, ◌-◌, ◌*◌, ◌/◌, ◌^◌, ℤ, pos, negsuc, ◌+ℤ◌, ◌-ℤ◌, neg_ℤ, nat_abs, sym, refl, ap, ◌∙◌, add-one, arith, pow_pos}
-use native.Mathlib.Nat.{add-div_right}
-use lib.Signed.{shr_z}
+use Rattle.std.proofs.Common.{◌≡◌, ◌*◌, ◌^◌, ℤ, pos, ◌+ℤ◌, ◌-ℤ◌, nat_abs, sym, refl, ap, ◌∙◌, arith}
 use borrow.Author.Differences.{ints}
 use Rattle.exact.specs.Integers.{sign, is_negative, signed, gap, scale}
 use Rattle.exact.specs.Dyadic.{Dyadic, dyadic, at, ◌≈ᴰ◌}
@@ -9,7 +7,7 @@ use Rattle.exact.proofs.Integers.{signed_abs, sign_above, sign_below, above_sign
 use Rattle.exact.proofs.Scaling.{scale_signed, scale_lt, lt_scale, scale_inj, gap_add}
 use Rattle.exact.proofs.Order.{same_at}
 use Rattle.exact.proofs.Exponents.{at_own}
-use Rattle.grid.specs.Rounding.{Mode, downward, whole, multiple, way_of, to_multiple, dropped, rounded, OnGrid}
+use Rattle.grid.specs.Rounding.{Mode, whole, multiple, way_of, to_multiple, dropped, rounded, OnGrid}
 use Rattle.grid.specs.Claims.{Toward, SignOf}
 use Rattle.grid.proofs.Finer.{multiple_exact}
 use Rattle.grid.proofs.Members.{on_grid_divided}
@@ -56,12 +54,3 @@ value_in_steps u m x =
     let v = dyadic (signed s q) (x.weight +ℤ pos k) in
     let e : at x.weight v ≡ signed s (q * 2 ^ k) = ap (scale (signed s q)) (gap_add x.weight k) ∙ scale_signed s q k in
     same_at x.weight (rounded u m x).value v (omega (arith, ints)) (omega (arith, ints)) (at_own (rounded u m x).value ∙ sym e)
-
--- rounding down is the shift that keeps the sign
-pub downward_shift : (n : ℤ) (k : ℕ) → scale (shr_z n (2 ^ k)) k ≡ to_multiple downward k n
-downward_shift (pos a) k = refl
-downward_shift (negsuc a) k =
-    let p = pow_pos k in
-    let e : suc a + (2 ^ k - 1) ≡ a + 2 ^ k = omega arith in
-    let f : (suc a + (2 ^ k - 1)) / 2 ^ k ≡ suc (a / 2 ^ k) = ap (λ (n : ℕ). n / 2 ^ k) e ∙ add-div_right a p ∙ add-one (a / 2 ^ k) in
-    ap (λ (n : ℕ). neg_ℤ (pos (n * 2 ^ k))) (sym f)
