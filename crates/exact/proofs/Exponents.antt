@@ -1,21 +1,21 @@
 -- The exponent of a dyadic number, and the powers of two on both sides of it.
-use Rattle.std.proofs.Common.{◌≡◌, ℕ, suc, ◌+◌, ◌*◌, ◌^◌, ◌<◌, ◌≤◌, ℤ, pos, ◌+ℤ◌, ◌-ℤ◌, nat_abs, ◌≤ℤ◌, sym, ap, ◌∙◌, subst, mul-le-mul_right, one-mul, arith, pow_pos, pow-add}
+use Rattle.std.proofs.Common.{◌≡◌, ℕ, suc, ◌+◌, ◌*◌, ◌^◌, ◌<◌, ◌≤◌, ℤ, pos, ◌+ℤ◌, ◌-ℤ◌, nat_abs, ◌≤ℤ◌, sym, ap, ◌∙◌, subst, mul-le-mul_right, arith, pow_pos, pow-add}
 use lib.Ieee.{size}
 use lib.Ieee.Digits.{size-lt, size-le}
 use borrow.Author.Differences.{ints}
 use Rattle.exact.specs.Integers.{gap, scale, lesser}
 use Rattle.exact.specs.Dyadic.{Dyadic, dyadic, at, ◌≤ᴰ◌, ◌<ᴰ◌, ◌≈ᴰ◌, Nonzero, magnitude, exponent}
 use Rattle.exact.proofs.Integers.{abs_pos}
-use Rattle.exact.proofs.Scaling.{scale_abs, scale_none, scale_inj, zero_scale, gap_add, gap_none, lesser_low}
+use Rattle.exact.proofs.Scaling.{scale_abs, scale_inj, zero_scale, lesser_low}
 use Rattle.exact.proofs.BitLength.{size_top, size_scale}
 use Rattle.exact.proofs.Order.{at_same, le_at, lt_at}
 
 pub at_own : (x : Dyadic) → at x.weight x ≡ x.count
-at_own x = ap (scale x.count) (gap_none x.weight x.weight (omega (arith, ints))) ∙ scale_none x.count
+at_own x = grind (arith, ints)
 
 -- 2 ^ v in units of 2 ^ z
 pub at_power : (z : ℤ) (k : ℕ) → at z (dyadic (pos 1) (z +ℤ pos k)) ≡ pos (2 ^ k)
-at_power z k = ap (scale (pos 1)) (gap_add z k) ∙ ap pos (one-mul (2 ^ k))
+at_power z k = grind (arith, ints)
 
 -- the exponent is the same at every weight below
 pub exponent_at : (z : ℤ) (x : Dyadic) → z ≤ℤ x.weight → Nonzero x → z +ℤ pos (size (nat_abs (at z x))) ≡ exponent x

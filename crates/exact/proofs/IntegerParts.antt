@@ -1,37 +1,18 @@
 -- Integers in two parts, c * P + l with a natural l below P: signs, opposites, and one digit more.
-use Rattle.std.proofs.Common.{◌≡◌, ℕ, suc, ◌+◌, ◌*◌, ◌<◌, ◌≤◌, ℤ, pos, negsuc, ◌+ℤ◌, ◌*ℤ◌, neg_ℤ, nat_abs, ◌≤ℤ◌, ◌<ℤ◌, sym, refl, ap, ◌∙◌, subst, mul-le-mul_right, mul_assoc, mul_comm, add-mul, arith}
+use Rattle.std.proofs.Common.{◌≡◌, ℕ, ◌+◌, ◌*◌, ◌<◌, ℤ, pos, ◌+ℤ◌, ◌*ℤ◌, neg_ℤ, nat_abs, ◌≤ℤ◌, ◌<ℤ◌, sym, ap, ◌∙◌, mul_assoc, mul_comm, add-mul, arith}
 use borrow.Author.Differences.{ints, up, down}
-use Rattle.std.proofs.lemmas.Int.{by_lt_z}
 
--- below 0 where c is
-pub parts_negative : (c : ℤ) (P l : ℕ) → l < P → c <ℤ pos 0 → (c *ℤ pos P +ℤ pos l) <ℤ pos 0
-parts_negative (pos n) P l lt h = absurd (omega (arith, ints))
-parts_negative (negsuc n) P l lt h =
-    let le : 1 ≤ suc n = omega arith in
-    let m : 1 * P ≤ suc n * P = mul-le-mul_right P le in
-    omega (arith, ints)
-
--- and else the natural that it reads as
+-- the natural that it reads as, where c is not below 0
 pub parts_natural : (c : ℤ) (P l : ℕ) → pos 0 ≤ℤ c → c *ℤ pos P +ℤ pos l ≡ pos (nat_abs c * P + l)
-parts_natural (pos n) P l h = refl
-parts_natural (negsuc n) P l h = absurd (omega (arith, ints))
+parts_natural c P l h = grind (arith, ints)
 
 -- an integer below 0 and its opposite
 module _ (v c d : ℤ) (P l m : ℕ) (small : l < P) (small-m : m < P) (is : v ≡ c *ℤ pos P +ℤ pos l) (opposite : neg_ℤ v ≡ d *ℤ pos P +ℤ pos m) (minus : c <ℤ pos 0) where
-  below : v <ℤ pos 0
-  below = subst (λ (z : ℤ). z <ℤ pos 0) (sym is) (parts_negative c P l small minus)
-
   pub opposite_natural : pos 0 ≤ℤ d
-  opposite_natural = by_lt_z d (pos 0) (λ n. absurd (not_both v below (subst (λ (z : ℤ). z <ℤ pos 0) (sym opposite) (parts_negative d P m small-m n)))) (λ n. n)
-    where
-      not_both : (z : ℤ) → z <ℤ pos 0 → neg_ℤ z <ℤ pos 0 → ⊥
-      not_both z a b = omega (arith, ints)
+  opposite_natural = grind (arith, ints)
 
   pub opposite_magnitude : (v <ℤ pos 0) × (nat_abs v ≡ nat_abs d * P + m)
-  opposite_magnitude = (below, magnitude v (nat_abs d * P + m) below (opposite ∙ parts_natural d P m opposite_natural))
-    where
-      magnitude : (z : ℤ) (n : ℕ) → z <ℤ pos 0 → neg_ℤ z ≡ pos n → nat_abs z ≡ n
-      magnitude z n a e = omega (arith, ints)
+  opposite_magnitude = grind (arith, ints)
 
 -- ---- digits of 32 bits
 -- a digit t at P and a carry c into it make a digit l and a carry q out of it

@@ -1,6 +1,6 @@
 -- Order, signs and magnitudes of integers.
-use Rattle.std.proofs.Common.{◌≡◌, ℕ, zero, suc, ◌+◌, ◌<◌, ◌≤◌, Bool, true, false, ℤ, pos, negsuc, ◌+ℤ◌, ◌-ℤ◌, neg_ℤ, nat_abs, ◌≤ℤ◌, ◌<ℤ◌, refl, arith}
-use lib.Signed.{le_z_yes}
+use Rattle.std.proofs.Common.{◌≡◌, ℕ, ◌+◌, ◌<◌, ◌≤◌, Bool, ℤ, pos, negsuc, ◌+ℤ◌, ◌-ℤ◌, neg_ℤ, nat_abs, ◌≤ℤ◌, ◌<ℤ◌, arith}
+use Rattle.std.proofs.lemmas.Grind.{common_steps}
 use borrow.Author.Differences.{ints}
 use Rattle.exact.specs.Integers.{sign, is_negative, signed}
 
@@ -9,9 +9,6 @@ pub ≤ℤ_antisymm : (x y : ℤ) → x ≤ℤ y → y ≤ℤ x → x ≡ y
 
 pub abs_neg : (n : ℕ) → nat_abs (neg_ℤ (pos n)) ≡ n
 abs_neg n = omega (arith, ints)
-
-pub abs_negℤ : (x : ℤ) → nat_abs (neg_ℤ x) ≡ nat_abs x
-abs_negℤ x = omega (arith, ints)
 
 pub neg_mono : (m n : ℕ) → m ≤ n → neg_ℤ (pos n) ≤ℤ neg_ℤ (pos m)
 neg_mono m n h = omega (arith, ints)
@@ -23,58 +20,36 @@ pub abs_none : (x : ℤ) → nat_abs x ≡ 0 → x ≡ pos 0
 abs_none x e = omega (arith, ints)
 
 pub signed_abs : (x : ℤ) → signed (is_negative x) (nat_abs x) ≡ x
-signed_abs (pos n) = refl
-signed_abs (negsuc n) = refl
+signed_abs x = grind (arith, ints)
 
 pub signed_plus : (s : Bool) (a b : ℕ) → signed s (a + b) ≡ signed s a +ℤ signed s b
-signed_plus false a b = refl
-signed_plus true a b = omega (arith, ints)
+signed_plus s a b = grind (arith, ints)
 
 pub signed_within : (s : Bool) (a b : ℕ) → a ≤ b → (neg_ℤ (pos b) ≤ℤ signed s a) × (signed s a ≤ℤ pos b)
-signed_within false a b h = (omega (arith, ints), omega (arith, ints))
-signed_within true a b h = (omega (arith, ints), omega (arith, ints))
+signed_within s a b h = grind (arith, ints)
 
 -- ---- signs
 pub sign_mono : (x y : ℤ) → x ≤ℤ y → sign x ≤ℤ sign y
-sign_mono (pos zero) (pos zero) h = le_z_yes tt
-sign_mono (pos zero) (pos (suc b)) h = le_z_yes tt
-sign_mono (pos (suc a)) (pos zero) h = absurd (omega (arith, ints))
-sign_mono (pos (suc a)) (pos (suc b)) h = le_z_yes tt
-sign_mono (pos a) (negsuc b) h = absurd h.le
-sign_mono (negsuc a) (pos zero) h = le_z_yes tt
-sign_mono (negsuc a) (pos (suc b)) h = le_z_yes tt
-sign_mono (negsuc a) (negsuc b) h = le_z_yes tt
+sign_mono x y h = grind (arith, ints)
 
 pub sign_above : (x : ℤ) → pos 0 <ℤ x → sign x ≡ pos 1
-sign_above (pos zero) h = absurd h.lt
-sign_above (pos (suc n)) h = refl
-sign_above (negsuc n) h = absurd h.lt
+sign_above x h = grind (arith, ints)
 
 pub sign_below : (x : ℤ) → x <ℤ pos 0 → sign x ≡ negsuc 0
-sign_below (pos n) h = absurd (omega (arith, ints))
-sign_below (negsuc n) h = refl
+sign_below x h = grind (arith, ints)
 
 pub above_sign : (x : ℤ) → sign x ≡ pos 1 → pos 0 <ℤ x
-above_sign (pos zero) e = absurd (omega (arith, ints))
-above_sign (pos (suc n)) e = omega (arith, ints)
-above_sign (negsuc n) e = absurd (omega (arith, ints))
+above_sign x h = grind (arith, ints)
 
 pub below_sign : (x : ℤ) → sign x ≡ negsuc 0 → x <ℤ pos 0
-below_sign (pos zero) e = absurd (omega (arith, ints))
-below_sign (pos (suc n)) e = absurd (omega (arith, ints))
-below_sign (negsuc n) e = omega (arith, ints)
+below_sign x h = grind (arith, ints)
 
 pub none_sign : (x : ℤ) → sign x ≡ pos 0 → x ≡ pos 0
-none_sign (pos zero) e = refl
-none_sign (pos (suc n)) e = absurd (omega (arith, ints))
-none_sign (negsuc n) e = absurd (omega (arith, ints))
+none_sign x h = grind (arith, ints)
 
 -- what lies between two numbers on one side of v lies on that side
 pub sign_between : (v a s b : ℤ) → a ≤ℤ s → s ≤ℤ b → sign (v -ℤ a) ≡ sign (v -ℤ b) → sign (v -ℤ s) ≡ sign (v -ℤ a)
-sign_between v a s b h g e =
-    let p = sign_mono (v -ℤ s) (v -ℤ a) (omega (arith, ints)) in
-    let q = sign_mono (v -ℤ b) (v -ℤ s) (omega (arith, ints)) in
-    omega (arith, ints)
+sign_between v a s b h g e = grind (arith, ints, common_steps)
 
 pub negative_between : (a s b : ℤ) → a ≤ℤ s → s ≤ℤ b → is_negative a ≡ is_negative b → is_negative s ≡ is_negative a
 negative_between a s b h g e = grind (arith, ints)

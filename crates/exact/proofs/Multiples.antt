@@ -1,6 +1,6 @@
 -- Multiples of a natural number d, above all of a power of two, on both sides of n.
-use Rattle.std.proofs.Common.{◌≡◌, ℕ, zero, suc, ◌+◌, ◌-◌, ◌*◌, ◌/◌, ◌%◌, ◌^◌, ◌<◌, ◌≤◌, sym, ap, ◌∙◌, le_of_suc-le-suc, mul-le-mul_right, mod-eq_of_lt, mul_assoc, div-lt_iff_lt-mul, mul-le-mul, lt_of_not-le, div-add-mod', le-div_iff_mul-le, div-mul-le_self, arith, pow_pos, pow_mono, pow-add}
-use native.Mathlib.Nat.{mul-mod_left, lt-div-mul-add}
+use Rattle.std.proofs.Common.{◌≡◌, ℕ, ◌+◌, ◌-◌, ◌*◌, ◌/◌, ◌%◌, ◌^◌, ◌<◌, ◌≤◌, sym, ap, ◌∙◌, mul_assoc, mul-le-mul, div-add-mod', arith, pow_pos, pow_mono, pow-add}
+use native.Mathlib.Nat.{mul-mod_left}
 
 pub pow_split : (a b : ℕ) → b ≤ a → 2 ^ a ≡ 2 ^ (a - b) * 2 ^ b
 pow_split a b h = ap (λ (x : ℕ). 2 ^ x) (let e : a ≡ a - b + b = omega arith in e) ∙ pow-add 2 (a - b) b
@@ -20,37 +20,25 @@ multiple_coarser n a b h e =
 
 -- a multiple that is not 0 is d at least
 pub multiple_ge : (n d : ℕ) → n % d ≡ 0 → 0 < n → d ≤ n
-multiple_ge n d e h = le_of_suc-le-suc (lt_of_not-le (λ (g : suc n ≤ d). let q : n ≡ 0 = sym (mod-eq_of_lt g) ∙ e in omega arith))
+multiple_ge n d e h = grind arith
 
 -- ---- the greatest multiple up to n
-pub cut_le : (n d : ℕ) → n / d * d ≤ n
-cut_le n d = div-mul-le_self n d
-
 pub le_cut : (n d g : ℕ) → 0 < d → g % d ≡ 0 → g ≤ n → g ≤ n / d * d
-le_cut n d g D e h =
-    let q : g / d ≤ n / d = (le-div_iff_mul-le D).1 (omega (arith, multiple_whole g d e)) in
-    omega (arith, multiple_whole g d e, mul-le-mul_right d q)
-
-pub cut_above : (n d : ℕ) → 0 < d → n < n / d * d + d
-cut_above n d D = lt-div-mul-add {a = n} D
+le_cut n d g D e h = grind arith
 
 -- ---- the least multiple from n on
 pub away_ge : (n d : ℕ) → 0 < d → n ≤ (n + (d - 1)) / d * d
-away_ge n d D = omega (arith, lt-div-mul-add {a = n + (d - 1)} D)
+away_ge n d D = omega arith
 
 pub away_le : (n d g : ℕ) → 0 < d → g % d ≡ 0 → n ≤ g → (n + (d - 1)) / d * d ≤ g
-away_le n d g D e h =
-    let q : (n + (d - 1)) / d < g / d + 1 = (div-lt_iff_lt-mul D).1 (omega (arith, multiple_whole g d e)) in
-    let p : (n + (d - 1)) / d ≤ g / d = omega arith in
-    omega (arith, multiple_whole g d e, mul-le-mul_right d p)
+away_le n d g D e h = grind arith
 
 pub away_below : (n d : ℕ) → 0 < d → (n + (d - 1)) / d * d < n + d
-away_below n d D = omega (arith, div-mul-le_self (n + (d - 1)) d)
+away_below n d D = omega arith
 
 -- ---- room below a power
 spare : (n d c t : ℕ) → 0 < d → t ≤ n * c → n * (d - 1) * c + t ≤ n * (d * c)
-spare n zero c t h l = absurd (omega arith)
-spare n (suc d) c t h l = let e : suc d - 1 ≡ d = omega arith in rw e (omega arith)
+spare n d c t h g = grind arith
 
 -- n times 2 ^ g - 1 units of 2 ^ b, and k of 2 ^ a, are at most n of 2 ^ (g + b)
 pub room : (n k g b a : ℕ) → k ≤ n → a ≤ b → n * (2 ^ g - 1) * 2 ^ b + k * 2 ^ a ≤ n * 2 ^ (g + b)

@@ -1,8 +1,7 @@
 -- The order of dyadic numbers: it is the order of their counts at any weight below both.
-use Rattle.std.proofs.Common.{◌≡◌, ℕ, ◌+◌, ◌-◌, ◌⊎◌, ℤ, ◌≤ℤ◌, ◌<ℤ◌, sym, refl, ap, ◌∙◌, inl, inr, arith}
+use Rattle.std.proofs.Common.{◌≡◌, ℕ, ◌+◌, ◌-◌, ◌⊎◌, ℤ, ◌≤ℤ◌, ◌<ℤ◌, sym, refl, ap, ◌∙◌, arith}
 use lib.Signed.{≤ℤ_refl}
 use borrow.Author.Differences.{ints}
-use Rattle.std.proofs.lemmas.Int.{by_lt_z}
 use Rattle.exact.specs.Integers.{gap, scale}
 use Rattle.exact.specs.Dyadic.{Dyadic, at, ◌≤ᴰ◌, ◌<ᴰ◌, ◌≈ᴰ◌}
 use Rattle.exact.proofs.Scaling.{scale_scale, scale_mono, scale_lt, le_scale, lt_scale, scale_inj, gap_split, below_three}
@@ -65,13 +64,13 @@ pub ≤ᴰ_antisymm : (x y : Dyadic) → x ≤ᴰ y → y ≤ᴰ x → x ≈ᴰ 
 ≤ᴰ_antisymm x y h g = omega (arith, ints)
 
 pub ≤ᴰ_total : (x y : Dyadic) → (x ≤ᴰ y) ⊎ (y ≤ᴰ x)
-≤ᴰ_total x y = by_lt_z (at y.weight x) (at x.weight y) (λ l. inl (omega (arith, ints))) (λ l. inr l)
+≤ᴰ_total x y = grind (arith, ints)
 
 pub <ᴰ_not_≥ : (x y : Dyadic) → x <ᴰ y → ¬ (y ≤ᴰ x)
 <ᴰ_not_≥ x y h g = omega (arith, ints)
 
 pub <ᴰ_of_not_≥ : (x y : Dyadic) → ¬ (y ≤ᴰ x) → x <ᴰ y
-<ᴰ_of_not_≥ x y n = by_lt_z (at y.weight x) (at x.weight y) (λ l. l) (λ l. absurd (n l))
+<ᴰ_of_not_≥ x y n = grind (arith, ints)
 
 -- ---- equality
 pub ≤ᴰ_of_≈ : (x y : Dyadic) → x ≈ᴰ y → x ≤ᴰ y

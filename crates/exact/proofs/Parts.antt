@@ -1,23 +1,20 @@
 -- Natural numbers in two parts, q * d + r with r below d, above all with a power of two for d.
-use Rattle.std.proofs.Common.{◌≡◌, ℕ, zero, suc, ◌+◌, ◌*◌, ◌/◌, ◌%◌, ◌^◌, ◌<◌, ◌≤◌, Bool, true, cond, ltb, ◌⊎◌, sym, ap, ◌∙◌, inl, inr, le_of_eq, lt_of_le_of_lt, mul-le-mul_right, mul_assoc, add-mul, le_antisymm, eq-or-lt_of_le, div-add-mod', arith, pow-add, shr-shr}
+use Rattle.std.proofs.Common.{◌≡◌, ℕ, suc, ◌+◌, ◌*◌, ◌/◌, ◌%◌, ◌^◌, ◌<◌, ◌≤◌, true, cond, ltb, ◌⊎◌, sym, ap, ◌∙◌, inl, inr, le_of_eq, lt_of_le_of_lt, mul-le-mul_right, mul_assoc, add-mul, le_antisymm, eq-or-lt_of_le, div-add-mod', arith, pow-add, shr-shr}
 use lib.Pow.{pow-lt}
 use lib.Ieee.{size}
 use lib.Ieee.Digits.{size-lt, size-le}
-use Rattle.std.proofs.lemmas.Bool.{lt-ltb}
 use Rattle.exact.proofs.BitLength.{size_is, size_mono, size_top}
 
 pub parts_below : (q b d r : ℕ) → q < b → r < d → q * d + r < b * d
-parts_below q b d r h l = omega (arith, mul-le-mul_right d h)
+parts_below q b d r h l = grind arith
 
 -- is it above 0
 pub parts_some : (q d r : ℕ) → 0 < d → ltb 0 (q * d + r) ≡ cond (ltb 0 q) true (ltb 0 r)
-parts_some zero d r h = ap (ltb 0) (let e : 0 * d + r ≡ r = omega arith in e)
-parts_some (suc q) d r h = lt-ltb 0 (suc q * d + r) (omega arith) ∙ sym (ap (λ (b : Bool). cond b true (ltb 0 r)) (lt-ltb 0 (suc q) (omega arith)))
+parts_some q d r h = grind arith
 
 -- no multiple of d fits below d
 pub parts_none : (n r q d : ℕ) → n ≡ r + q * d → n < d → q ≡ 0
-parts_none n r zero d e h = omega arith
-parts_none n r (suc q) d e h = absurd (omega arith)
+parts_none n r q d h g = grind arith
 
 -- r adds no bit
 pub size_parts : (n j r : ℕ) → 0 < n → r < 2 ^ j → size (n * 2 ^ j + r) ≡ size n + j

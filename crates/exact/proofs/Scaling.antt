@@ -1,6 +1,6 @@
 -- Integers times powers of two, and the gap between two integers.
-use Rattle.std.proofs.Common.{◌≡◌, ℕ, zero, suc, ◌+◌, ◌*◌, ◌^◌, ◌<◌, ◌≤◌, Bool, true, false, ℤ, pos, negsuc, ◌+ℤ◌, ◌-ℤ◌, neg_ℤ, nat_abs, ◌≤ℤ◌, ◌<ℤ◌, refl, ap, ◌∙◌, mul-le-mul_right, zero-lt-suc, mul-lt-mul_of_pos_right, mul-pos, zero-mul, le_of_mul-le-mul_right, arith, pow_pos, pow-add}
-use borrow.Author.Differences.{ints, at_most_in, le_out, lt_out, sum_is_lem, neg_is, product_is}
+use Rattle.std.proofs.Common.{◌≡◌, ℕ, zero, suc, ◌+◌, ◌*◌, ◌^◌, ◌<◌, ◌≤◌, Bool, true, ℤ, pos, negsuc, ◌+ℤ◌, ◌-ℤ◌, neg_ℤ, nat_abs, ◌≤ℤ◌, ◌<ℤ◌, refl, ap, ◌∙◌, mul-le-mul_right, zero-lt-suc, mul-lt-mul_of_pos_right, mul-pos, zero-mul, le_of_mul-le-mul_right, arith, pow_pos, pow-add}
+use borrow.Author.Differences.{ints, at_most_in, le_out, lt_out, sum_is_lem, product_is}
 use Rattle.std.proofs.lemmas.Int.{by_lt_z}
 use Rattle.exact.specs.Integers.{sign, is_negative, signed, gap, lesser, scale}
 use Rattle.exact.proofs.Integers.{≤ℤ_antisymm}
@@ -9,7 +9,7 @@ pub scale_plus : (x y : ℤ) (k : ℕ) → scale (x +ℤ y) k ≡ scale x k +ℤ
 scale_plus x y k = omega (arith, ints, ap (λ (n : ℕ). n * 2 ^ k) (sum_is_lem x y))
 
 pub scale_neg : (x : ℤ) (k : ℕ) → scale (neg_ℤ x) k ≡ neg_ℤ (scale x k)
-scale_neg x k = let e = neg_is x in omega (arith, ints, ap (λ (n : ℕ). n * 2 ^ k) e.0, ap (λ (n : ℕ). n * 2 ^ k) e.1)
+scale_neg x k = grind (arith, ints)
 
 pub scale_minus : (x y : ℤ) (k : ℕ) → scale (x -ℤ y) k ≡ scale x k -ℤ scale y k
 scale_minus x y k = scale_plus x (neg_ℤ y) k ∙ ap (λ (z : ℤ). scale x k +ℤ z) (scale_neg y k)
@@ -24,12 +24,10 @@ pub scale_scale : (x : ℤ) (j k : ℕ) → scale (scale x j) k ≡ scale x (j +
 scale_scale x j k = let e = product_is x (pos (2 ^ j)) in rw (pow-add 2 j k) (omega (arith, ints, ap (λ (n : ℕ). n * 2 ^ k) e.0, ap (λ (n : ℕ). n * 2 ^ k) e.1))
 
 pub scale_abs : (x : ℤ) (k : ℕ) → nat_abs (scale x k) ≡ nat_abs x * 2 ^ k
-scale_abs (pos n) k = refl
-scale_abs (negsuc n) k = omega (arith, ints)
+scale_abs x k = grind (arith, ints)
 
 pub scale_signed : (s : Bool) (n k : ℕ) → scale (signed s n) k ≡ signed s (n * 2 ^ k)
-scale_signed false n k = refl
-scale_signed true n k = scale_neg (pos n) k
+scale_signed s n k = grind (arith, ints)
 
 pub scale_mono : (x y : ℤ) (k : ℕ) → x ≤ℤ y → scale x k ≤ℤ scale y k
 scale_mono x y k h = omega (arith, ints, mul-le-mul_right (2 ^ k) (le_out x y h))

@@ -1,9 +1,10 @@
 -- A natural number times one power of two, from another power of two on, and its lowest bits.
-use Rattle.std.proofs.Common.{◌≡◌, ℕ, suc, ◌+◌, ◌-◌, ◌*◌, ◌/◌, ◌%◌, ◌^◌, ◌<◌, ◌≤◌, sym, ap, ◌∙◌, subst, mul-le-mul_right, mul_assoc, mul_comm, mul-lt-mul_of_pos_right, pow-suc, mul-div_cancel, arith, pow_pos, pow-add}
+use Rattle.std.proofs.Common.{◌≡◌, ℕ, suc, ◌+◌, ◌-◌, ◌*◌, ◌/◌, ◌%◌, ◌^◌, ◌<◌, ◌≤◌, sym, ap, ◌∙◌, subst, mul-le-mul_right, mul_assoc, mul_comm, mul-lt-mul_of_pos_right, pow-suc, arith, pow_pos, pow-add}
+use Rattle.std.proofs.lemmas.Grind.{common_steps}
 use native.Mathlib.Nat.{add-mul-mod_self_right, mul-div-mul_right}
 use lib.Ieee.{size}
 use lib.Pow.{shl-shr, mod-mod-pow}
-use Rattle.std.proofs.lemmas.Nat.{field_of, div_below, le-div}
+use Rattle.std.proofs.lemmas.Nat.{field_of, le-div}
 use Rattle.exact.proofs.BitLength.{size_top}
 use Rattle.exact.proofs.Multiples.{pow_split}
 
@@ -20,7 +21,7 @@ shift_both n a b d =
 
 -- a number of b bits leaves k bits of k more
 pub shift_below : (n b k : ℕ) → n < 2 ^ b → n * 2 ^ k / 2 ^ b < 2 ^ k
-shift_below n b k h = div_below (n * 2 ^ k) (2 ^ b) (2 ^ k) (pow_pos b) (omega (arith, mul-lt-mul_of_pos_right h (pow_pos k), mul_comm (2 ^ b) (2 ^ k)))
+shift_below n b k h = grind (arith, mul-lt-mul_of_pos_right h (pow_pos k), mul_comm (2 ^ b) (2 ^ k))
 
 -- the first p bits of a number that is not 0 have the highest bit
 pub first_bits_full : (n p : ℕ) → 0 < p → 0 < n → 2 ^ p ≤ 2 * (n * 2 ^ p / 2 ^ size n)
@@ -35,7 +36,7 @@ first_bits_full n p h g = from_top (size_top n g)
         omega arith
 
 pub half_power : (k : ℕ) → 0 < k → 2 ^ k / 2 ≡ 2 ^ (k - 1)
-half_power k h = ap (λ (y : ℕ). y / 2) (ap (λ (y : ℕ). 2 ^ y) (let q : k ≡ suc (k - 1) = omega arith in q) ∙ pow-suc 2 (k - 1)) ∙ mul-div_cancel (2 ^ (k - 1)) (omega arith)
+half_power k h = grind (arith, common_steps)
 
 -- ---- the lowest 32 bits
 pub low_bits_of_low : (n s : ℕ) → s ≤ 32 → n % 4294967296 % 2 ^ s ≡ n % 2 ^ s

@@ -4,7 +4,7 @@ use lib.IntN.{+ℤ_comm, +ℤ_assoc}
 use borrow.Author.Differences.{ints}
 use Rattle.exact.specs.Integers.{gap, lesser}
 use Rattle.exact.specs.Dyadic.{Dyadic, dyadic, at, ◌≤ᴰ◌, ◌≈ᴰ◌, plus, negation, magnitude, distance, total}
-use Rattle.exact.proofs.Scaling.{scale_plus, scale_neg, scale_abs, zero_scale, lesser_low}
+use Rattle.exact.proofs.Scaling.{scale_plus, lesser_low}
 use Rattle.exact.proofs.Order.{at_le, le_at, same_at, at_at}
 
 pub at_plus : (z : ℤ) (x y : Dyadic) → z ≤ℤ x.weight → z ≤ℤ y.weight → at z (plus x y) ≡ at z x +ℤ at z y
@@ -15,10 +15,10 @@ at_plus z x y h g =
     scale_plus (at v x) (at v y) (gap v z) ∙ ap₂ ◌+ℤ◌ (at_at z v x l b.0) (at_at z v y l b.1)
 
 pub at_negation : (z : ℤ) (x : Dyadic) → at z (negation x) ≡ neg_ℤ (at z x)
-at_negation z x = scale_neg x.count (gap x.weight z)
+at_negation z x = grind (arith, ints)
 
 pub at_magnitude : (z : ℤ) (x : Dyadic) → at z (magnitude x) ≡ pos (nat_abs (at z x))
-at_magnitude z x = ap pos (sym (scale_abs x.count (gap x.weight z)))
+at_magnitude z x = grind (arith, ints)
 
 pub at_distance : (z : ℤ) (x y : Dyadic) → z ≤ℤ x.weight → z ≤ℤ y.weight → at z (distance x y) ≡ pos (nat_abs (at z x -ℤ at z y))
 at_distance z x y h g =
@@ -57,17 +57,10 @@ plus_mono x y a b h g =
     le_at z (plus x y) (plus a b) (omega (arith, ints)) (omega (arith, ints)) (rw (e, f) (omega (arith, ints)))
 
 pub plus_negation : (x : Dyadic) → plus x (negation x) ≈ᴰ dyadic (pos 0) (pos 0)
-plus_negation x =
-    let z = lesser x.weight (pos 0) in
-    let X : z ≤ℤ x.weight = omega (arith, ints) in
-    let e : at z (plus x (negation x)) ≡ pos 0 = at_plus z x (negation x) X X ∙ ap (λ (n : ℤ). at z x +ℤ n) (at_negation z x) ∙ omega (arith, ints) in
-    same_at z (plus x (negation x)) (dyadic (pos 0) (pos 0)) (omega (arith, ints)) (omega (arith, ints)) (e ∙ omega (arith, ints))
+plus_negation x = grind (arith, ints)
 
 pub plus_zero : (x : Dyadic) (w : ℤ) → plus x (dyadic (pos 0) w) ≈ᴰ x
-plus_zero x w =
-    let z = lesser x.weight w in
-    let (h, g) = lesser_low x.weight w in
-    same_at z (plus x (dyadic (pos 0) w)) x (omega (arith, ints)) h (at_plus z x (dyadic (pos 0) w) h g ∙ ap (λ (n : ℤ). at z x +ℤ n) (zero_scale (gap w z)) ∙ omega (arith, ints))
+plus_zero x w = grind (arith, ints)
 
 -- ---- a sum of many, at a weight below all of them
 abbrev pub BelowAll : ℤ → List Dyadic → Type 0

@@ -1,13 +1,12 @@
 -- The same number, counted in other units.
 use Rattle.std.proofs.Common.{◌≡◌, ℕ, ◌*◌, ◌^◌, Bool, ℤ, pos, ◌+ℤ◌, sym, ap, ◌∙◌, arith}
 use borrow.Author.Differences.{ints}
-use Rattle.exact.specs.Integers.{signed, gap, scale}
+use Rattle.exact.specs.Integers.{signed}
 use Rattle.exact.specs.Dyadic.{dyadic, at, ◌≈ᴰ◌}
-use Rattle.exact.proofs.Scaling.{scale_signed}
 use Rattle.exact.proofs.Order.{same_at}
 
 pub at_signed : (s : Bool) (M j : ℕ) (v z : ℤ) → v ≡ z +ℤ pos j → at z (dyadic (signed s M) v) ≡ signed s (M * 2 ^ j)
-at_signed s M j v z e = ap (scale (signed s M)) (let g : gap v z ≡ j = omega (arith, ints) in g) ∙ scale_signed s M j
+at_signed s M j v z e = grind (arith, ints)
 
 pub other_units : (s : Bool) (M a : ℕ) (v y z : ℤ) (j k : ℕ) → v ≡ z +ℤ pos j → y ≡ z +ℤ pos k → M * 2 ^ j ≡ a * 2 ^ k → dyadic (signed s M) v ≈ᴰ dyadic (signed s a) y
 other_units s M a v y z j k ev ey e =

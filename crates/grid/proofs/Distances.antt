@@ -1,12 +1,12 @@
 -- How far an answer lies from the number that was rounded.
-use Rattle.std.proofs.Common.{◌≡◌, ℕ, suc, ◌+◌, ◌-◌, ◌*◌, ◌^◌, ◌<◌, ◌≤◌, true, false, ℤ, pos, negsuc, ◌+ℤ◌, ◌-ℤ◌, nat_abs, ◌≤ℤ◌, ap, ◌∙◌, subst, arith, pow_pos}
-use native.Mathlib.Nat.{pow-succ'}
+use Rattle.std.proofs.Common.{◌≡◌, ℕ, suc, ◌+◌, ◌-◌, ◌*◌, ◌^◌, ◌<◌, ◌≤◌, true, false, ℤ, pos, negsuc, ◌+ℤ◌, ◌-ℤ◌, nat_abs, ◌≤ℤ◌, ap, ◌∙◌, subst, arith, pow_pos, div-mul-le_self}
+use native.Mathlib.Nat.{pow-succ', lt-div-mul-add}
 use borrow.Author.Differences.{ints}
 use Rattle.std.proofs.lemmas.Int.{by_lt_z}
 use Rattle.exact.specs.Integers.{gap, scale, lesser}
 use Rattle.exact.specs.Dyadic.{Dyadic, dyadic, at, ◌≤ᴰ◌, ◌<ᴰ◌, distance, exponent}
 use Rattle.exact.proofs.Scaling.{gap_none, lesser_low}
-use Rattle.exact.proofs.Multiples.{cut_le, cut_above, away_ge, away_below}
+use Rattle.exact.proofs.Multiples.{away_ge, away_below}
 use Rattle.exact.proofs.Halves.{near_ge, near_le, near_half_below, near_half_above}
 use Rattle.exact.proofs.Order.{le_at, lt_at}
 use Rattle.exact.proofs.Sums.{at_distance}
@@ -17,12 +17,12 @@ use Rattle.grid.specs.Claims.{Close}
 -- ---- a magnitude lies less than 2 ^ k from its multiple
 step_below : (w : Way) (k n : ℕ) → multiple w k n < n + 2 ^ k
 step_below near k n = omega (arith, near_le n (2 ^ k) (pow_pos k), away_below n (2 ^ k) (pow_pos k))
-step_below cut k n = omega (arith, cut_le n (2 ^ k), pow_pos k)
+step_below cut k n = omega (arith, div-mul-le_self n (2 ^ k), pow_pos k)
 step_below away k n = away_below n (2 ^ k) (pow_pos k)
 
 step_above : (w : Way) (k n : ℕ) → n < multiple w k n + 2 ^ k
-step_above near k n = omega (arith, near_ge n (2 ^ k), cut_above n (2 ^ k) (pow_pos k))
-step_above cut k n = cut_above n (2 ^ k) (pow_pos k)
+step_above near k n = omega (arith, near_ge n (2 ^ k), lt-div-mul-add {a = n} (pow_pos k))
+step_above cut k n = lt-div-mul-add {a = n} (pow_pos k)
 step_above away k n = omega (arith, away_ge n (2 ^ k) (pow_pos k), pow_pos k)
 
 pub less_than_step : (m : Mode) (k : ℕ) (n : ℤ) → nat_abs (to_multiple m k n -ℤ n) < 2 ^ k

@@ -1,5 +1,5 @@
 -- Rounding of dyadic numbers: at any weight below a number it is the rounding of its count, on the grid as it is there.
-use Rattle.std.proofs.Common.{◌≡◌, ℕ, zero, suc, ◌+◌, ◌*◌, ◌%◌, ◌^◌, ◌<◌, ◌≤◌, true, false, ℤ, pos, negsuc, ◌+ℤ◌, ◌-ℤ◌, neg_ℤ, nat_abs, ◌≤ℤ◌, sym, refl, ap, ◌∙◌, inl, inr, zero-lt-suc, eq-zero-or-pos, mul-pos, zero-mul, arith, pow_pos}
+use Rattle.std.proofs.Common.{◌≡◌, ℕ, suc, ◌+◌, ◌*◌, ◌%◌, ◌^◌, ◌<◌, ◌≤◌, true, false, ℤ, pos, negsuc, ◌+ℤ◌, ◌-ℤ◌, neg_ℤ, nat_abs, ◌≤ℤ◌, sym, refl, ap, ◌∙◌, inl, inr, zero-lt-suc, eq-zero-or-pos, mul-pos, zero-mul, arith, pow_pos}
 use native.Mathlib.Nat.{eq_of_mul-eq-mul_right, zero-mod, mod-one, mul-mod_left}
 use native.Mathlib.Decide.{dec_le}
 use lib.Ieee.{size}
@@ -13,7 +13,7 @@ use Rattle.exact.proofs.Multiples.{multiple_coarser}
 use Rattle.grid.specs.Rounding.{Mode, Way, cut, way_of, multiple, dropped, rounded}
 use Rattle.grid.proofs.Everywhere.{LawsEverywhere}
 use Rattle.grid.proofs.Magnitudes.{MagnitudeLaws, On, to}
-use Rattle.grid.proofs.Finer.{multiple_exact, multiple_is, multiple_scale}
+use Rattle.grid.proofs.Finer.{multiple_exact, multiple_scale}
 use Rattle.grid.proofs.Integers.{round}
 
 -- the spacing at each number of digits, in units of 2 ^ z
@@ -72,8 +72,7 @@ to_finer u w z v n h = elim (eq-zero-or-pos n) [
 
 -- the integer
 round_neg : (m : Mode) (k : ℕ → ℕ) (n : ℕ) → 0 < n → round m k (neg_ℤ (pos n)) ≡ neg_ℤ (pos (to (way_of m true) k n))
-round_neg m k zero h = absurd (omega arith)
-round_neg m k (suc n) h = refl
+round_neg m k n h = grind (arith, ints)
 
 pub round_finer : (u : ℤ → ℤ) (m : Mode) (z v : ℤ) (n : ℤ) → z ≤ℤ v → round m (spacing_at u z) (scale n (gap v z)) ≡ scale (round m (spacing_at u v) n) (gap v z)
 round_finer u m z v (pos n) h = ap pos (to_finer u (way_of m false) z v n h)
@@ -98,7 +97,7 @@ abbrev pub Divided : (ℤ → ℤ) → Dyadic → Type 0
 Divided u x = nat_abs x.count % 2 ^ dropped u x ≡ 0
 
 on_cut : (k : ℕ → ℕ) (n : ℕ) → to cut k n ≡ n → On k n
-on_cut k n e = let q : to cut k n % 2 ^ k (size n) ≡ 0 = multiple_is cut (k (size n)) n in rw e at q
+on_cut k n e = omega (arith, ints)
 
 pub on_at : (u : ℤ → ℤ) (z : ℤ) (x : Dyadic) → z ≤ℤ x.weight → Divided u x → On (spacing_at u z) (nat_abs (at z x))
 on_at u z x h o =

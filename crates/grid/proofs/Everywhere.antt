@@ -15,12 +15,6 @@ nearest_end_low e h = omega (arith, ints, clamps)
 pub nearest_end_high : (e : ℤ) → highest ≤ℤ e → nearest_end e ≡ highest
 nearest_end_high e h = omega (arith, ints, clamps)
 
-pub nearest_end_in : (e : ℤ) → InRange e → nearest_end e ≡ e
-nearest_end_in e r = omega (arith, ints, clamps)
-
-pub nearest_end_range : (e : ℤ) → InRange (nearest_end e)
-nearest_end_range e = record { from = omega (arith, ints, clamps); upto = omega (arith, ints, clamps) }
-
 pub laws_everywhere : (u : ℤ → ℤ) (W : ℕ) → Lawful u W → LawsEverywhere u
 laws_everywhere u W L = record { rises = rises'; inside = inside'; flat = flat' }
   where

@@ -1,21 +1,17 @@
 -- A finer weight changes no rounding: n * 2 ^ d at spacing k + d is n at spacing k, times 2 ^ d.
-use Rattle.std.proofs.Common.{◌≡◌, ℕ, ◌+◌, ◌-◌, ◌*◌, ◌/◌, ◌%◌, ◌^◌, ◌<◌, ◌≤◌, sym, ap, ◌∙◌, le_trans, le_of_lt, mul-le-mul_right, mul_assoc, mul_comm, le_antisymm, mul-pos, div-mul-le_self, le_of_mul-le-mul_right, arith, pow_pos, pow_mono, pow-add}
+use Rattle.std.proofs.Common.{◌≡◌, ℕ, ◌+◌, ◌-◌, ◌*◌, ◌/◌, ◌%◌, ◌^◌, ◌<◌, ◌≤◌, sym, ap, ◌∙◌, le_trans, le_of_lt, mul-le-mul_right, mul_assoc, mul_comm, mul-pos, div-mul-le_self, le_of_mul-le-mul_right, arith, pow_pos, pow_mono, pow-add, div-mul-le_self}
+use Rattle.std.proofs.lemmas.Grind.{common_steps}
+use borrow.Author.Differences.{ints}
 use native.Mathlib.Nat.{mul-div-mul_right, mul-mod_left, div-eq_of_lt-le}
 use lib.Ieee.{size}
 use lib.Ieee.Digits.{size-lt}
-use lib.Ieee.Nearest.{closest, closest_same}
-use Rattle.exact.proofs.Multiples.{multiple_whole, cut_le, away_ge, away_le}
-use Rattle.exact.proofs.Halves.{near_le, closest_exact}
+use lib.Ieee.Nearest.{closest_same}
+use Rattle.exact.proofs.Multiples.{away_ge, away_le}
 use Rattle.grid.specs.Rounding.{Way, near, cut, away, whole, multiple}
 
 -- a multiple rounds to itself
 pub multiple_exact : (w : Way) (k n : ℕ) → n % 2 ^ k ≡ 0 → multiple w k n ≡ n
-multiple_exact near k n e = ap (λ (x : ℕ). closest x (2 ^ k) * 2 ^ k) (multiple_whole n (2 ^ k) e) ∙ ap (λ (x : ℕ). x * 2 ^ k) (closest_exact (n / 2 ^ k) (2 ^ k) (pow_pos k)) ∙ sym (multiple_whole n (2 ^ k) e)
-multiple_exact cut k n e = sym (multiple_whole n (2 ^ k) e)
-multiple_exact away k n e = le_antisymm (away_le n (2 ^ k) n (pow_pos k) e (omega arith)) (away_ge n (2 ^ k) (pow_pos k))
-
-pub multiple_is : (w : Way) (k n : ℕ) → multiple w k n % 2 ^ k ≡ 0
-multiple_is w k n = mul-mod_left (whole w n (2 ^ k)) (2 ^ k)
+multiple_exact w k n h = grind arith
 
 whole_scale : (w : Way) (n c d : ℕ) → 0 < c → 0 < d → whole w (n * d) (c * d) ≡ whole w n c
 whole_scale near n c d C D = closest_same (n * d) (c * d) n c (mul-pos C D) C (simp (mul_assoc, mul_comm))
@@ -32,9 +28,7 @@ multiple_scale w k n d =
 
 -- ---- a rounded number is at most 2 ^ (size - k) steps of 2 ^ k
 whole_le_away : (w : Way) (n d : ℕ) → 0 < d → whole w n d * d ≤ (n + (d - 1)) / d * d
-whole_le_away near n d D = near_le n d D
-whole_le_away cut n d D = le_trans (cut_le n d) (away_ge n d D)
-whole_le_away away n d D = omega arith
+whole_le_away w n d h = grind (arith, ints, common_steps)
 
 pub whole_le : (w : Way) (k n : ℕ) → whole w n (2 ^ k) ≤ 2 ^ (size n - k)
 whole_le w k n =

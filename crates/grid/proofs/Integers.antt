@@ -1,9 +1,9 @@
 -- Rounding of integers to a grid at one weight.
-use Rattle.std.proofs.Common.{ℕ, suc, ◌^◌, true, false, ℤ, pos, negsuc, nat_abs, ◌≤ℤ◌, arith, pow_pos}
+use Rattle.std.proofs.Common.{ℕ, suc, ◌^◌, true, false, ℤ, pos, negsuc, nat_abs, ◌≤ℤ◌, arith, pow_pos, div-mul-le_self}
 use lib.Ieee.{size}
 use borrow.Author.Differences.{ints}
 use Rattle.exact.proofs.Integers.{abs_neg, neg_mono}
-use Rattle.exact.proofs.Multiples.{cut_le, away_ge}
+use Rattle.exact.proofs.Multiples.{away_ge}
 use Rattle.grid.specs.Rounding.{Mode, nearest, downward, upward, near, cut, away, way_of, to_multiple}
 use Rattle.grid.proofs.Magnitudes.{MagnitudeLaws, On, to, to_mono, lower_on, higher_on, near_on, lower_greatest, higher_least}
 
@@ -24,7 +24,7 @@ module _ (k : ℕ → ℕ) (L : MagnitudeLaws k) where
   down_on (negsuc a) = rw (abs_neg (to away k (suc a))) (higher_on k L (suc a))
 
   pub down_le : (z : ℤ) → round downward k z ≤ℤ z
-  down_le (pos a) = omega (arith, ints, cut_le a (2 ^ k (size a)))
+  down_le (pos a) = omega (arith, ints, div-mul-le_self a (2 ^ k (size a)))
   down_le (negsuc a) = omega (arith, ints, away_ge (suc a) (2 ^ k (size (suc a))) (pow_pos (k (size (suc a)))))
 
   pub down_greatest : (z g : ℤ) → On k (nat_abs g) → g ≤ℤ z → g ≤ℤ round downward k z
@@ -40,7 +40,7 @@ module _ (k : ℕ → ℕ) (L : MagnitudeLaws k) where
 
   pub up_ge : (z : ℤ) → z ≤ℤ round upward k z
   up_ge (pos a) = omega (arith, ints, away_ge a (2 ^ k (size a)) (pow_pos (k (size a))))
-  up_ge (negsuc a) = omega (arith, ints, cut_le (suc a) (2 ^ k (size (suc a))))
+  up_ge (negsuc a) = omega (arith, ints, div-mul-le_self (suc a) (2 ^ k (size (suc a))))
 
   pub up_least : (z g : ℤ) → On k (nat_abs g) → z ≤ℤ g → round upward k z ≤ℤ g
   up_least (pos a) (pos g) o h = let l = higher_least k L a g o (omega (arith, ints)) in omega (arith, ints)

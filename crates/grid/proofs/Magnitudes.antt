@@ -1,5 +1,5 @@
 -- Rounding of natural numbers to a grid at one weight: the numbers of e digits that it has are the multiples of 2 ^ k(e).
-use Rattle.std.proofs.Common.{◌≡◌, ℕ, suc, ◌+◌, ◌-◌, ◌*◌, ◌/◌, ◌%◌, ◌^◌, ◌<◌, ◌≤◌, ◌⊎◌, sym, ap, ◌∙◌, subst, inl, inr, le_trans, le_of_eq, lt_of_lt_of_le, lt_of_le_of_lt, le_of_lt, mul-le-mul_right, eq-zero-or-pos, eq-or-lt_of_le, zero-mul, arith, pow_pos, pow_mono}
+use Rattle.std.proofs.Common.{◌≡◌, ℕ, suc, ◌+◌, ◌-◌, ◌*◌, ◌/◌, ◌%◌, ◌^◌, ◌<◌, ◌≤◌, ◌⊎◌, sym, ap, ◌∙◌, subst, inl, inr, le_trans, le_of_eq, lt_of_lt_of_le, lt_of_le_of_lt, le_of_lt, mul-le-mul_right, eq-zero-or-pos, eq-or-lt_of_le, zero-mul, arith, pow_pos, pow_mono, div-mul-le_self}
 use native.Mathlib.Nat.{mul-mod_left, zero-mod, div-eq_of_lt, mod_self}
 use native.Mathlib.Decide.{dec_le, le_ind}
 use lib.Pow.{pow-lt}
@@ -7,7 +7,7 @@ use lib.Ieee.{size}
 use lib.Ieee.Digits.{size-lt, size_reaches}
 use lib.Ieee.Nearest.{closest_mono}
 use Rattle.exact.proofs.BitLength.{size_mono, size_is}
-use Rattle.exact.proofs.Multiples.{pow_multiple, multiple_coarser, multiple_ge, cut_le, le_cut, away_ge, away_le}
+use Rattle.exact.proofs.Multiples.{pow_multiple, multiple_coarser, multiple_ge, le_cut, away_ge, away_le}
 use Rattle.exact.proofs.Halves.{near_ge, near_le, closest_either}
 use Rattle.grid.specs.Rounding.{Way, near, cut, away, multiple}
 
@@ -66,7 +66,7 @@ module _ (k : ℕ → ℕ) (L : MagnitudeLaws k) where
             let e = size n - 1 in
             let q : size n ≡ suc e = omega arith in
             let s : size (to cut k n) ≡ size n =
-            size_is (to cut k n) e (lead_lower n e q (omega arith)) (lt_of_le_of_lt (cut_le n (2 ^ K)) (subst (λ (x : ℕ). n < 2 ^ x) q (size-lt n))) ∙ sym q in
+            size_is (to cut k n) e (lead_lower n e q (omega arith)) (lt_of_le_of_lt (div-mul-le_self n (2 ^ K)) (subst (λ (x : ℕ). n < 2 ^ x) q (size-lt n))) ∙ sym q in
             subst (λ (x : ℕ). to cut k n % 2 ^ k x ≡ 0) (sym s) m
       ]
 
@@ -122,7 +122,7 @@ module _ (k : ℕ → ℕ) (L : MagnitudeLaws k) where
 
   -- ---- a larger number rounds to one that is no smaller
   pub lower_mono : (m n : ℕ) → m ≤ n → to cut k m ≤ to cut k n
-  lower_mono m n h = lower_greatest n (to cut k m) (lower_on m) (le_trans (cut_le m (2 ^ k (size m))) h)
+  lower_mono m n h = lower_greatest n (to cut k m) (lower_on m) (le_trans (div-mul-le_self m (2 ^ k (size m))) h)
 
   pub higher_mono : (m n : ℕ) → m ≤ n → to away k m ≤ to away k n
   higher_mono m n h = higher_least m (to away k n) (higher_on n) (le_trans h (away_ge n (2 ^ k (size n)) (pow_pos (k (size n)))))

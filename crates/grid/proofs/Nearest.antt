@@ -1,5 +1,5 @@
 -- The nearest number at one weight: no number of the grid is nearer, and a tie goes to the even multiple.
-use Rattle.std.proofs.Common.{◌≡◌, ℕ, zero, suc, ◌+◌, ◌*◌, ◌/◌, ◌%◌, ◌^◌, ◌<◌, ◌≤◌, ℤ, pos, negsuc, ◌+ℤ◌, ◌-ℤ◌, neg_ℤ, nat_abs, ◌≤ℤ◌, ◌<ℤ◌, sym, ap, ◌∙◌, inl, inr, mul-le-mul_right, mod-lt, lt_of_mul-lt-mul_right, div-add-mod', arith, pow_pos}
+use Rattle.std.proofs.Common.{◌≡◌, ℕ, suc, ◌+◌, ◌*◌, ◌/◌, ◌%◌, ◌^◌, ◌<◌, ◌≤◌, ℤ, pos, negsuc, ◌+ℤ◌, ◌-ℤ◌, neg_ℤ, nat_abs, ◌≤ℤ◌, ◌<ℤ◌, sym, ap, ◌∙◌, inl, inr, mul-le-mul_right, mod-lt, lt_of_mul-lt-mul_right, div-add-mod', arith, pow_pos}
 use native.Mathlib.Decide.{dec_le}
 use lib.IntN.{neg_ℤ-+ℤ}
 use lib.Ieee.{size}
@@ -86,8 +86,7 @@ even_neg j v (h, f, p) =
     (neg_ℤ (pos h), ap (λ (x : ℕ). neg_ℤ (pos x)) f ∙ sym (scale_neg (pos (h + h)) j) ∙ ap (λ (x : ℤ). scale x j) (neg_ℤ-+ℤ (pos h) (pos h)), p)
 
 more_than_one : (j n : ℕ) → n % 2 ^ j * 2 ≡ 2 ^ j → 0 < j
-more_than_one zero n e = absurd (omega arith)
-more_than_one (suc j) n e = omega arith
+more_than_one j n h = grind (arith, ints)
 
 module _ (k : ℕ → ℕ) (L : MagnitudeLaws k) where
   halved : (n g : ℕ) → On k g → ¬ (g ≡ to near k n) → to near k n + g ≡ 2 * n → Halved (k (size n)) (to near k n)

@@ -1,24 +1,19 @@
 -- How many digits an answer has: at most the width of the grid.
-use Rattle.std.proofs.Common.{◌≡◌, ℕ, ◌+◌, ◌*◌, ◌^◌, ◌<◌, ◌≤◌, Bool, true, false, ℤ, pos, ◌+ℤ◌, ◌-ℤ◌, nat_abs, sym, ap, ◌∙◌, subst, le_trans, le_of_lt, arith, pow_mono, shl_lt}
+use Rattle.std.proofs.Common.{◌≡◌, ℕ, ◌+◌, ◌*◌, ◌^◌, ◌<◌, ◌≤◌, ℤ, pos, ◌+ℤ◌, ◌-ℤ◌, nat_abs, sym, ap, ◌∙◌, subst, le_trans, le_of_lt, arith, pow_mono, shl_lt}
 use lib.Ieee.{size}
 use lib.Ieee.Digits.{size-lt}
 use borrow.Author.Differences.{ints}
 use Rattle.std.proofs.lemmas.Int.{by_lt_z}
 use Rattle.exact.specs.Integers.{is_negative, signed, gap, scale}
 use Rattle.exact.specs.Dyadic.{Dyadic, dyadic, exponent, ◌≈ᴰ◌}
-use Rattle.exact.proofs.Integers.{abs_neg}
+use Rattle.exact.proofs.Signed.{abs_signed}
 use Rattle.exact.proofs.Scaling.{scale_abs, scale_none, gap_none}
-use Rattle.grid.specs.Spacing.{InRange, nearest_end, Lawful}
+use Rattle.grid.specs.Spacing.{InRange, Lawful}
 use Rattle.grid.specs.Rounding.{Way, whole, way_of, dropped, rounded}
 use Rattle.grid.specs.Claims.{Digits}
-use Rattle.grid.proofs.Everywhere.{nearest_end_range}
 use Rattle.grid.proofs.Finer.{whole_le}
 use Rattle.grid.proofs.Distances.{less_than_step}
 use Rattle.grid.proofs.Outcomes.{value_in_steps}
-
-abs_signed : (s : Bool) (n : ℕ) → nat_abs (signed s n) ≡ n
-abs_signed false n = omega arith
-abs_signed true n = abs_neg n
 
 -- at most 2 ^ W steps
 pub steps_within_width : (u : ℤ → ℤ) (W : ℕ) → Lawful u W → (w : Way) (x : Dyadic) → InRange (exponent x) → whole w (nat_abs x.count) (2 ^ dropped u x) ≤ 2 ^ W
@@ -47,10 +42,3 @@ digits u W L m x r =
     let q = whole (way_of m s) (nat_abs n) (2 ^ dropped u x) in
     let e : w +ℤ pos (dropped u x) ≡ v = omega (arith, ints) in
     (signed s q, subst (λ (y : ℤ). (rounded u m x).value ≈ᴰ dyadic (signed s q) y) e (value_in_steps u m x), rw (abs_signed s q) (steps_within_width u W L (way_of m s) x r)))
-
--- no more digits than the width at any exponent, even beyond the range
-pub precision_within : (u : ℤ → ℤ) (W : ℕ) → Lawful u W → (e : ℤ) → gap (nearest_end e) (u e) ≤ W
-precision_within u W L e =
-    let n = L.narrow (nearest_end e) (nearest_end_range e) in
-    let s = L.ends e in
-    omega (arith, ints)
