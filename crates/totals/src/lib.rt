@@ -32,6 +32,7 @@ fn flipped(flip: bool, total: i64) -> i64
 }
 
 // The lowest 32 bits of each total, or of its opposite, with the rest carried on; the last carry.
+// By a flag: a contract on an iterator of totals would have to say which totals it yields.
 fn carry_up(totals: &[i64], flip: bool, limbs: &mut [u32]) -> i64
     requires same { length totals.now ≡ length limbs.old }
     requires small { SmallTotals totals.now }
@@ -42,6 +43,7 @@ fn carry_up(totals: &[i64], flip: bool, limbs: &mut [u32]) -> i64
     let mut carry: i64 = 0;
     for (i, &total) in totals.iter().enumerate() {
         let (rest, low) = split(flipped(flip, total) + carry);
+        // Written by index: after iter_mut a proof knows the slice's length, not its elements.
         limbs[i] = low;
         carry = rest;
     }

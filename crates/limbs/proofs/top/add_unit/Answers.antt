@@ -1,10 +1,7 @@
 -- One limb more of the sum, and at the end the carry is 0 or 1.
-use Rattle.std.proofs.Common.{◌≡◌, ℕ, ◌+◌, ◌*◌, ◌%◌, ◌^◌, ◌<◌, ◌≤◌, Bool, true, false, not, eqb, length, get_or, ap, subst, arith, rules}
+use Rattle.std.proofs.Common.{◌≡◌, ℕ, ◌+◌, ◌*◌, ◌%◌, ◌^◌, ◌<◌, ◌≤◌, Bool, true, false, get_or, arith, rules}
 use Rattle.std.specs.Bool.{FalseIff}
 use Rattle.std.specs.Int.{from_bool}
-use Rattle.std.proofs.lemmas.List.{take_all}
-use Rattle.exact.specs.Limbs.{limbs_value}
-use Rattle.limbs.specs.Bits.{bit}
 use Rattle.exact.proofs.LimbSteps.{add_limb}
 use Rattle.limbs.proofs.top.add_unit.Goals as goal
 
@@ -25,18 +22,3 @@ loop-i-preserved c =
     let sum : (x + c.loop-i.carry ≡ v + d * 4294967296) × (d ≤ 1) = rw c.from-carry.ensures flag in
     let more = add_limb s c.args.limbs.now i c.loop-i.carry (2 ^ c.args.s) v d (omega (arith, c.loop-i.auto.limbs)) c.loop-i.auto.limbs c.loop-i.invariant.2 c.loop-i.invariant.3 sum.0 in
     (c.from-carry.type_inv, λ _. sum.1, more.0, more.1)
-
-one : (x : ℕ) → x ≤ 1 → bit (not (eqb x 0)) ≡ x
-one x h = grind arith
-
-pub returns : goal.returns
-returns c =
-    let s = c.loop-i.limbs in
-    let s0 = c.args.limbs.now in
-    let i = c.loop-i.i in
-    let e : i ≡ length s0 = omega (arith, c.loop-i.auto.i-end) in
-    let now = ap limbs_value (take_all i s (omega (arith, c.loop-i.auto.limbs))) in
-    let before = ap limbs_value (take_all i s0 (omega arith)) in
-    let carry = one c.loop-i.carry (c.loop-i.invariant.1 (omega (arith, c.requires.some))) in
-    let sum : limbs_value s + c.loop-i.carry * 2 ^ (32 * i) ≡ limbs_value s0 + 2 ^ c.args.s = rw (now, before) at c.loop-i.invariant.3 in
-    rw carry (subst (λ (y : ℕ). limbs_value s + c.loop-i.carry * 2 ^ (32 * y) ≡ limbs_value s0 + 2 ^ c.args.s) e sum)
