@@ -1,5 +1,6 @@
 -- The first p bits of a number at the top of the limbs that hold them, and one unit more.
 use Rattle.std.proofs.Common.{◌≡◌, ℕ, suc, List, [], ◌∷◌, length, ◌+◌, ◌-◌, ◌*◌, ◌/◌, ◌^◌, ◌<◌, ◌≤◌, Bool, true, false, sym, ap, ◌∙◌, subst, lt_of_mul-lt-mul_right, le_of_mul-le-mul_right, arith, pow_pos, pow-add, shr-shr}
+use Rattle.std.proofs.lemmas.Nat.{shl_below}
 use Rattle.exact.specs.Limbs.{limbs_value}
 use Rattle.exact.proofs.LimbBits.{SmallLimbs, pow_next_limb}
 use Rattle.exact.proofs.Shifts.{shift_both}
@@ -21,6 +22,11 @@ cut_at n b p L all cut e f g =
 
 pow_used : (p : ℕ) → 2 ^ p * 2 ^ unused p ≡ 2 ^ (32 * limbs_for p)
 pow_used p = sym (pow-add 2 p (unused p)) ∙ ap (λ (y : ℕ). 2 ^ y) (let e : p + unused p ≡ 32 * limbs_for p = omega arith in e)
+
+pub unit_fits : (q p : ℕ) → q < 2 ^ p → q * 2 ^ unused p < 2 ^ (32 * limbs_for p)
+unit_fits q p h =
+    let e : p + unused p ≡ 32 * limbs_for p = omega arith in
+    subst (λ (y : ℕ). q * 2 ^ unused p < 2 ^ y) e (shl_below q p (unused p) h)
 
 raised_fits : (q p a : ℕ) (r : Bool) → q < 2 ^ p → a + bit r * 2 ^ (32 * limbs_for p) ≡ q * 2 ^ unused p + 2 ^ unused p → a < 2 ^ (32 * limbs_for p) → Written (q + 1) p r a
 raised_fits q p a false h e l =
