@@ -7,62 +7,57 @@ ghost use Rattle.limbs.specs.Written.{Written};
 use crate::bounded::BoundedLimbs;
 use crate::magnitude::moved_bits;
 
-// The bits of the number at the top of the first `count` limbs of the answer, with 0 in the others.
-fn copy_top(number: BoundedLimbs, count: usize, answer: &mut [u32])
-    requires fits { count ≤ length answer.old }
-    requires few { length answer.old ≤ most_limbs }
-    ensures { limbs_value answer.new ≡ limbs_value number.entry.limbs.now * 2 ^ (32 * count) / 2 ^ number.entry.bits }
+// The bits of the number from the top of the limbs on, as far as the limbs go.
+fn copy_top(number: BoundedLimbs, limbs: &mut [u32])
+    requires few { length limbs.old ≤ most_limbs }
+    ensures { limbs_value limbs.new ≡ limbs_value number.entry.limbs.now * 2 ^ (32 * length limbs.old) / 2 ^ number.entry.bits }
 {
-    for j in 0..answer.len() {
-        answer[j] = if j < count {
-            moved_bits(&number.limbs, 32 * (count - j), number.bits)
-        } else {
-            0
-        };
+    let count = limbs.len();
+    // Written by index: after iter_mut a proof knows the slice's length, not its elements.
+    for j in 0..count {
+        limbs[j] = moved_bits(&number.limbs, 32 * (count - j), number.bits);
     }
 }
 
 // Makes the lowest s bits 0.
-fn clear_low(answer: &mut [u32], s: usize)
+fn clear_low(limbs: &mut [u32], s: usize)
     requires low { s < 32 }
-    requires some { 0 < length answer.old }
-    ensures { limbs_value answer.new ≡ limbs_value answer.old / 2 ^ s * 2 ^ s }
+    requires some { 0 < length limbs.old }
+    ensures { limbs_value limbs.new ≡ limbs_value limbs.old / 2 ^ s * 2 ^ s }
 {
-    let lowest = answer[0];
-    answer[0] = lowest - lowest % (1u32 << s);
+    limbs[0] -= limbs[0] % (1 << s);
 }
 
-// The first `precision` bits of the number, at the top.
-fn write_cut(number: BoundedLimbs, precision: usize, answer: &mut [u32])
-    requires some { 0 < precision }
-    requires fits { precision ≤ 32 * length answer.old }
-    requires few { length answer.old ≤ most_limbs }
-    ensures { limbs_value answer.new ≡ limbs_value number.entry.limbs.now * 2 ^ precision / 2 ^ number.entry.bits * 2 ^ (32 * limbs_for precision - precision) }
-{
-    let count = (precision + 31) / 32;
-    copy_top(number, count, answer);
-    clear_low(answer, 32 * count - precision);
-}
-
-// Adds 2 ^ s in the first `count` limbs, and tells whether it carries out of them.
-fn add_unit(answer: &mut [u32], count: usize, s: usize) -> bool
+// Adds 2 ^ s, and tells whether it carries out of the limbs.
+fn add_unit(limbs: &mut [u32], s: usize) -> bool
     requires low { s < 32 }
-    requires some { 0 < count }
-    requires fits { count ≤ length answer.old }
-    requires short { limbs_value answer.old < 2 ^ (32 * count) }
-    ensures sum { limbs_value answer.new + bit result * 2 ^ (32 * count) ≡ limbs_value answer.old + 2 ^ s }
-    ensures below { limbs_value answer.new < 2 ^ (32 * count) }
+    requires some { 0 < length limbs.old }
+    ensures { limbs_value limbs.new + bit result * 2 ^ (32 * length limbs.old) ≡ limbs_value limbs.old + 2 ^ s }
 {
-    let mut carry = 1u64 << s;
-    for i in 0..count {
-        let sum = answer[i] as u64 + carry;
-        answer[i] = (sum & 0xffff_ffff) as u32;
-        carry = sum >> 32;
+    let mut carry = 1 << s;
+    // Written by index: after iter_mut a proof knows the slice's length, not its elements.
+    for i in 0..limbs.len() {
+        let (sum, carries) = limbs[i].overflowing_add(carry);
+        limbs[i] = sum;
+        carry = u32::from(carries);
     }
     carry != 0
 }
 
-// The first `precision` bits of the number, raised by one or not, at the top. Tells whether that is 2 ^ precision, which has a bit more.
+// The first `precision` bits of the number, raised by one or not, at the top of the limbs that hold so many bits.
+fn write_bits(number: BoundedLimbs, precision: usize, raise: bool, limbs: &mut [u32]) -> bool
+    requires some { 0 < precision }
+    requires fits { length limbs.old ≡ limbs_for precision }
+    requires few { length limbs.old ≤ most_limbs }
+    ensures { Written (limbs_value number.entry.limbs.now * 2 ^ precision / 2 ^ number.entry.bits + bit raise) precision result (limbs_value limbs.new) }
+{
+    let unused = 32 * limbs.len() - precision;
+    copy_top(number, limbs);
+    clear_low(limbs, unused);
+    raise && add_unit(limbs, unused)
+}
+
+// The first `precision` bits of the number, raised by one or not, at the top of the answer, and 0 below. Tells whether that is 2 ^ precision, which has a bit more.
 // For the rounding of an end, which has room for them.
 pub fn write_rounded(
     number: BoundedLimbs,
@@ -75,24 +70,19 @@ pub fn write_rounded(
     requires few { length answer.old ≤ most_limbs }
     ensures { Written (limbs_value number.entry.limbs.now * 2 ^ precision / 2 ^ number.entry.bits + bit raise) precision result (limbs_value answer.new) }
 {
-    write_cut(number, precision, answer);
-    if raise {
-        let count = (precision + 31) / 32;
-        return add_unit(answer, count, 32 * count - precision);
-    }
-    false
+    let (top, rest) = answer.split_at_mut(precision.div_ceil(32));
+    rest.fill(0);
+    write_bits(number, precision, raise, top)
 }
 
 // The highest bit of the first `count` limbs alone, and nothing for a count of 0.
 // For the rounding of an end, which has room for them.
 pub fn write_power(count: usize, answer: &mut [u32])
     requires fits { count ≤ length answer.old }
-    requires few { length answer.old ≤ most_limbs }
     ensures { limbs_value answer.new ≡ 2 ^ (32 * count) / 2 }
 {
-    let one = BoundedLimbs {
-        limbs: &[1],
-        bits: 1,
-    };
-    copy_top(one, count, answer);
+    answer.fill(0);
+    if count > 0 {
+        answer[count - 1] = 1 << 31;
+    }
 }

@@ -2,7 +2,7 @@
 use Rattle.std.proofs.Common.{◌≡◌, ℕ, suc, ◌+◌, ◌*◌, ◌^◌, ◌<◌, Bool, true, false, List, [], ◌∷◌, ◌++◌, length, get_or, take, set, ℤ, pos, ◌+ℤ◌, ◌*ℤ◌, neg_ℤ, sym, refl, ap, ◌∙◌, arith}
 use borrow.Author.Differences.{up, down, neg_is}
 use Rattle.std.proofs.lemmas.Int.{ints}
-use Rattle.std.proofs.lemmas.List.{take_more, length-take-le, take_all}
+use Rattle.std.proofs.lemmas.List.{take_more, length-take-le}
 use Rattle.exact.specs.Limbs.{limbs_value}
 use Rattle.exact.proofs.LimbBits.{pow_next_limb}
 use Rattle.exact.proofs.LimbSteps.{value_set, pow_after}
@@ -35,11 +35,3 @@ carry_step f ts s i l c q lt same digit value =
     ap (flipped f) (totals_more ts i lt) ∙ flipped_sum f t (totals_value (take i ts)) P
     ∙ carry_over (flipped f t) c q (flipped f (totals_value (take i ts))) l (limbs_value (take i s)) P (2 ^ (32 * (i + 1))) digit value (pow_after i)
     ∙ ap (λ (y : ℕ). q *ℤ pos (2 ^ (32 * (i + 1))) +ℤ pos y) (sym (value_set s i l ls))
-
-pub carry_end : (f : Bool) (ts : List ℤ) (s : List ℕ) (i : ℕ) (c : ℤ) → i ≡ length ts → length ts ≡ length s
-    → flipped f (totals_value (take i ts)) ≡ c *ℤ pos (2 ^ (32 * i)) +ℤ pos (limbs_value (take i s))
-    → flipped f (totals_value ts) ≡ c *ℤ pos (2 ^ (32 * length ts)) +ℤ pos (limbs_value s)
-carry_end f ts s i c e same h =
-    ap (λ (y : List ℤ). flipped f (totals_value y)) (sym (take_all i ts (omega arith))) ∙ h
-    ∙ ap (λ (y : ℕ). c *ℤ pos (2 ^ (32 * y)) +ℤ pos (limbs_value (take i s))) e
-    ∙ ap (λ (y : List ℕ). c *ℤ pos (2 ^ (32 * length ts)) +ℤ pos (limbs_value y)) (take_all i s (omega arith))

@@ -7,7 +7,7 @@ ghost use Rattle.exact.specs.Limbs.{limbs_value};
 ghost use Rattle.totals.specs.Totals.{totals_value, SmallTotals, flipped};
 
 // A sign, and the limb above those that were written.
-#[derive(Clone, Copy)]
+#[derive(Clone, Copy, PartialEq, Eq, Debug)]
 pub struct Settled {
     pub negative: bool,
     pub top: u32,
@@ -22,7 +22,17 @@ fn split(total: i64) -> (i64, u32)
     (total.div_euclid(LIMB), total.rem_euclid(LIMB) as u32)
 }
 
+// A total, or its opposite.
+fn flipped(flip: bool, total: i64) -> i64
+    requires { unsigned_abs total < 2 ^ 53 }
+    ensures is { result ≡ flipped flip total }
+    ensures small { unsigned_abs result < 2 ^ 53 }
+{
+    if flip { -total } else { total }
+}
+
 // The lowest 32 bits of each total, or of its opposite, with the rest carried on; the last carry.
+// By a flag: a contract on an iterator of totals would have to say which totals it yields.
 fn carry_up(totals: &[i64], flip: bool, limbs: &mut [u32]) -> i64
     requires same { length totals.now ≡ length limbs.old }
     requires small { SmallTotals totals.now }
@@ -31,11 +41,11 @@ fn carry_up(totals: &[i64], flip: bool, limbs: &mut [u32]) -> i64
     ensures bound { unsigned_abs result ≤ 4194304 }
 {
     let mut carry: i64 = 0;
-    for i in 0..totals.len() {
-        let t = if flip { -totals[i] } else { totals[i] };
-        let (q, low) = split(t + carry);
+    for (i, &total) in totals.iter().enumerate() {
+        let (rest, low) = split(flipped(flip, total) + carry);
+        // Written by index: after iter_mut a proof knows the slice's length, not its elements.
         limbs[i] = low;
-        carry = q;
+        carry = rest;
     }
     carry
 }

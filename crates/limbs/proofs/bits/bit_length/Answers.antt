@@ -1,8 +1,7 @@
 -- The highest limb that is not 0 has the highest bit.
-use Rattle.std.proofs.Common.{◌≡◌, ℕ, ◌+◌, ◌<◌, ◌≤◌, length, get_or, drop, sym, ap, arith, rules}
+use Rattle.std.proofs.Common.{◌≡◌, ℕ, ◌+◌, ◌<◌, ◌≤◌, length, get_or, sym, ap, rules}
 use Rattle.std.proofs.iter.runs.Made.{chains}
 use lib.Ieee.{size}
-use Rattle.exact.specs.Limbs.{limbs_value}
 use Rattle.exact.proofs.LimbBits.{size_by_top_limb}
 use Rattle.limbs.proofs.ZeroLimbs.{no_value_from}
 use Rattle.limbs.proofs.bits.bit_length.Goals as goal

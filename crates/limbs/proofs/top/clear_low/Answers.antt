@@ -10,4 +10,4 @@ cut [] s d h l e = absurd (omega arith)
 cut (x ∷ xs) s d h l e = ap (λ (y : ℕ). (x - x % y) + 4294967296 * limbs_value xs) e ∙ clear_first x s xs h
 
 pub returns : goal.returns
-returns c = cut c.args.answer.now c.args.s (1 * 2 ^ c.args.s % 4294967296) c.requires.low c.requires.some (one_shl c.args.s 32 c.requires.low)
+returns c = cut c.args.limbs.now c.args.s (1 * 2 ^ c.args.s % 4294967296) c.requires.low c.requires.some (one_shl c.args.s 32 c.requires.low)
