@@ -1,6 +1,7 @@
 -- The first record with a fault: the steps of the loop that looks for it, and what its outcome tells.
-use Rattle.std.proofs.Common.{◌≡◌, ℕ, suc, ◌+◌, ◌<◌, ◌≤◌, Bool, true, false, cond, ltb, List, [], ◌∷◌, length, get_or, drop, Some, None, Option, sym, refl, ap, ◌∙◌, subst, arith, ltb-false, ltb-true, le-ltb}
+use Rattle.std.proofs.Common.{◌≡◌, ℕ, suc, ◌+◌, ◌<◌, ◌≤◌, Bool, true, false, cond, ltb, List, [], ◌∷◌, length, get_or, drop, Some, None, Option, Ok, Err, Result, sym, refl, ap, ◌∙◌, subst, arith, ltb-false, ltb-true, le-ltb}
 use Rattle.std.specs.List.{AllByRecursion}
+use Rattle.std.specs.Result.{result_err, MatchResult}
 use Rattle.std.proofs.lemmas.List.{drop_more}
 use Rattle.batch.specs.Term.{most_terms}
 use Rattle.batch.specs.declared.fault.RecordFault.{RecordFault}
@@ -17,10 +18,12 @@ module _ (pool : List ℕ) (rs : List LimbRecord) (i : ℕ) (d : LimbRecord) (in
   pub first_further : None ≡ record_fault pool (get_or rs i d) → first_fault pool 0 rs ≡ first_fault pool (i + 1) (drop (i + 1) rs)
   first_further e = first_by_next ∙ ap (λ f. fault_at i f (first_fault pool (i + 1) (drop (i + 1) rs))) (sym e)
 
-  -- a fault here
-  pub first_here : (f : RecordFault) → length rs ≤ most_terms → Some f ≡ record_fault pool (get_or rs i d) → Some (AtRecord i f) ≡ opening_fault pool rs
-  first_here f few e =
-      rw (le-ltb most_terms (length rs) few) (sym (first_by_next ∙ ap (λ f. fault_at i f (first_fault pool (i + 1) (drop (i + 1) rs))) (sym e)))
+  -- a fault here, which is passed on with the place of its record
+  pub first_here : (checked : Result (Unit {0}) RecordFault) (passed : Result (Unit {0}) BatchFault) → length rs ≤ most_terms → result_err checked ≡ record_fault pool (get_or rs i d)
+      → MatchResult checked (λ u. ⊥) (λ f. passed ≡ Err (AtRecord i f)) → result_err passed ≡ opening_fault pool rs
+  first_here (Ok u) passed few e m = absurd m
+  first_here (Err f) passed few e m =
+      ap result_err m ∙ (rw (le-ltb most_terms (length rs) few) (sym (first_by_next ∙ ap (λ f. fault_at i f (first_fault pool (i + 1) (drop (i + 1) rs))) (sym e))))
 
 -- ---- what the outcome tells, with records counted from k on
 abbrev ToldFrom : List ℕ → List LimbRecord → ℕ → Option BatchFault → Type 0

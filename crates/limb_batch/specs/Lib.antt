@@ -1,3 +1,4 @@
 pub mod Records
 pub mod Opening
 pub mod SoundRecords
+pub mod RegularRecords

@@ -1,5 +1,6 @@
 // The checks of the records, in the order in which faults are told.
 ghost use Rattle.std.specs.Prelude.{◌≡◌, ◌≤◌, length};
+ghost use Rattle.std.specs.Result.{result_err};
 ghost use Rattle.limb_batch.specs.Records.{limbs_for};
 ghost use Rattle.limb_batch.specs.Opening.{limbs_fault, regular_fault, record_fault, opening_fault};
 
@@ -16,60 +17,58 @@ pub fn limb_count(precision: u64) -> usize
     ((precision + 31) / 32) as usize
 }
 
-fn limbs_fault(limbs: &[u32], precision: u64) -> Option<RecordFault>
+fn check_limbs(limbs: &[u32], precision: u64) -> Result<(), RecordFault>
     requires some { 1 ≤ precision }
     requires few { precision ≤ 4096 }
     requires whole { length limbs.now ≡ limbs_for precision }
-    ensures { result ≡ limbs_fault limbs.now precision }
+    ensures { result_err result ≡ limbs_fault limbs.now precision }
 {
     if limbs[limbs.len() - 1] < TOP_BIT {
-        return Some(RecordFault::TopBitClear);
+        return Err(RecordFault::TopBitClear);
     }
     let spare = 32 * limbs.len() as u64 - precision;
     if limbs[0] % (1 << spare) != 0 {
-        return Some(RecordFault::LowBitSet);
+        return Err(RecordFault::LowBitSet);
     }
-    None
+    Ok(())
 }
 
-fn regular_fault(pool: &[u32], record: &LimbRecord) -> Option<RecordFault>
-    ensures { result ≡ regular_fault pool.now «record».now }
+fn check_regular(pool: &[u32], record: &LimbRecord) -> Result<(), RecordFault>
+    ensures { result_err result ≡ regular_fault pool.now «record».now }
 {
     if record.precision < 1 || record.precision > MOST_DIGITS {
-        return Some(RecordFault::PrecisionOutOfRange);
+        return Err(RecordFault::PrecisionOutOfRange);
     }
     if record.exponent < -FARTHEST_TOP || record.exponent > FARTHEST_TOP {
-        return Some(RecordFault::ExponentOutOfRange);
+        return Err(RecordFault::ExponentOutOfRange);
     }
     // The place may be any number: it is compared with what is left of the pool, so that no sum overflows.
     let count = limb_count(record.precision);
     if count > pool.len() || record.place > pool.len() - count {
-        return Some(RecordFault::LimbsPastPool);
+        return Err(RecordFault::LimbsPastPool);
     }
-    limbs_fault(&pool[record.place..record.place + count], record.precision)
+    check_limbs(&pool[record.place..record.place + count], record.precision)
 }
 
-fn record_fault(pool: &[u32], record: &LimbRecord) -> Option<RecordFault>
-    ensures { result ≡ record_fault pool.now «record».now }
+fn check_record(pool: &[u32], record: &LimbRecord) -> Result<(), RecordFault>
+    ensures { result_err result ≡ record_fault pool.now «record».now }
 {
-    match Kind::numbered(record.kind) {
-        Kind::Absent => Some(RecordFault::UnknownKind),
-        Kind::Positive | Kind::Negative => regular_fault(pool, record),
-        _ => None,
+    match Kind::from(record.kind) {
+        Kind::Absent => Err(RecordFault::UnknownKind),
+        Kind::Positive | Kind::Negative => check_regular(pool, record),
+        _ => Ok(()),
     }
 }
 
-// The fault of the first record that has one.
-pub fn opening_fault(pool: &[u32], records: &[LimbRecord]) -> Option<BatchFault>
-    ensures { result ≡ opening_fault pool.now records.now }
+// Refuses with the fault of the first record that has one.
+pub fn check_records(pool: &[u32], records: &[LimbRecord]) -> Result<(), BatchFault>
+    ensures { result_err result ≡ opening_fault pool.now records.now }
 {
     if records.len() > MOST_TERMS {
-        return Some(BatchFault::TooManyTerms);
+        return Err(BatchFault::TooManyTerms);
     }
     for (i, record) in records.iter().enumerate() {
-        if let Some(fault) = record_fault(pool, record) {
-            return Some(BatchFault::AtRecord(i, fault));
-        }
+        check_record(pool, record).map_err(|fault| BatchFault::AtRecord(i, fault))?;
     }
-    None
+    Ok(())
 }

@@ -2,9 +2,9 @@
 #![tactic(auto)]
 
 mod check;
-mod digit;
 mod opened;
 mod record;
+mod regular;
 
 pub use opened::LimbBatch;
 pub use record::LimbRecord;

@@ -3,13 +3,15 @@ ghost use Rattle.std.specs.Prelude.{◌≡◌, false, is_some, MatchOption};
 ghost use Rattle.batch.specs.TermKinds.{kind_is_regular};
 ghost use Rattle.batch.specs.Lookup.{kind_of_term};
 ghost use Rattle.limb_batch.specs.Records.{record_terms};
-ghost use Rattle.limb_batch.specs.Opening.{opening_fault, RegularAt};
+ghost use Rattle.limb_batch.specs.Opening.{opening_fault};
 ghost use Rattle.limb_batch.specs.SoundRecords.{Words, terms_batchable};
+ghost use Rattle.limb_batch.specs.RegularRecords.{IsTerm};
 
 mod construct;
 
-use crate::digit::{digit_of, low_of, top_of};
+use crate::check::limb_count;
 use crate::record::LimbRecord;
+use crate::regular::RegularRecord;
 use batch::{Batch, Kind};
 
 #[derive(Clone, Copy)]
@@ -22,14 +24,19 @@ pub struct LimbBatch<'r, 'p> {
 
 impl<'r, 'p> LimbBatch<'r, 'p> {
     // Record i, if there is one and it is regular.
-    fn regular_record(&self, i: usize) -> Option<&LimbRecord>
-        ensures { MatchOption result (kind_is_regular (kind_of_term (record_terms self.now.pool.now self.now.records.now) i) ≡ false) (λ x. RegularAt self.now.pool.now self.now.records.now i x.now) }
+    fn regular_record(&self, i: usize) -> Option<RegularRecord<'p>>
+        ensures { MatchOption result (kind_is_regular (kind_of_term (record_terms self.now.pool.now self.now.records.now) i) ≡ false) (IsTerm (record_terms self.now.pool.now self.now.records.now) i) }
     {
-        if self.kind(i).is_regular() {
-            Some(&self.records[i])
-        } else {
-            None
+        if !self.kind(i).is_regular() {
+            return None;
         }
+        let record = self.records[i];
+        let count = limb_count(record.precision);
+        Some(RegularRecord {
+            limbs: &self.pool[record.place..record.place + count],
+            exponent: record.exponent,
+            precision: record.precision,
+        })
     }
 }
 
@@ -43,30 +50,21 @@ impl<'r, 'p> Batch for LimbBatch<'r, 'p> {
     }
 
     fn kind(&self, i: usize) -> Kind {
-        match self.records.get(i) {
-            Some(record) => Kind::numbered(record.kind),
-            None => Kind::Absent,
-        }
+        self.records
+            .get(i)
+            .map_or(Kind::Absent, |record| Kind::from(record.kind))
     }
 
     fn top(&self, i: usize) -> i32 {
-        match self.regular_record(i) {
-            Some(record) => top_of(record),
-            None => 0,
-        }
+        self.regular_record(i).map_or(0, |record| record.top())
     }
 
     fn low(&self, i: usize) -> i32 {
-        match self.regular_record(i) {
-            Some(record) => low_of(record),
-            None => 0,
-        }
+        self.regular_record(i).map_or(0, |record| record.low())
     }
 
     fn digit(&self, i: usize, column: i32) -> u32 {
-        match self.regular_record(i) {
-            Some(record) => digit_of(self.pool, record, column),
-            None => 0,
-        }
+        self.regular_record(i)
+            .map_or(0, |record| record.digit(column))
     }
 }

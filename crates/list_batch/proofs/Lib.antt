@@ -1,3 +1,2 @@
-pub mod Places
-pub mod WordAnswers
 pub mod FloatBits
+pub mod Places

@@ -6,7 +6,6 @@ mod pair;
 mod record;
 mod row;
 mod scaled;
-mod spell;
 mod word_term;
 
 pub use list::ListBatch;

@@ -6,6 +6,7 @@ ghost use Rattle.list_batch.specs.FloatValues.{IsWorth};
 
 use crate::row::Row;
 
+// Not one generic type with `Row`: a row alone is a record, and each name says what its fields hold.
 #[derive(Clone, Copy)]
 pub struct Pair {
     pub head: f64,

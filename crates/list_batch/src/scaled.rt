@@ -1,4 +1,4 @@
-// A scaled record: count * 2 ^ scale, one term.
+// A scaled record: count * 2 ^ scale, one term. The law of a record is about any integers: `fits` tells it what their types hold.
 ghost use Rattle.std.specs.Prelude.{◌≡◌, ◌^◌, pos, neg_ℤ, ◌≤ℤ◌, ◌<ℤ◌};
 
 mod terms;

@@ -1,20 +1,12 @@
--- The low weight of a regular record is that of its term.
-use Rattle.std.proofs.Common.{pos, refl, ◌∙◌, w32, rules}
+-- The low weight of the regular record that is found.
+use Rattle.std.proofs.Common.{pos, refl, ◌∙◌, w32, rules, tests}
 use Rattle.std.proofs.lemmas.Int.{to_z-of_z}
 use Rattle.batch.specs.Term.{low_weight}
-use Rattle.batch.proofs.Lookups.{irregular_lookup, low_none}
-use Rattle.limb_batch.specs.Records.{record_terms}
-use Rattle.limb_batch.proofs.RecordTerms.{answer_there}
+use Rattle.batch.proofs.Lookups.{low_none}
+use Rattle.limb_batch.proofs.RecordTerms.{answer_found}
 use Rattle.limb_batch.proofs.opened.LimbBatchBatch.low.Goals as goal
 
-pub returns-in-Some : goal.returns-in-Some
-returns-in-Some c =
-    let b = c.args.self.now in
-    let here = c.in-Some.ensures in
-    to_z-of_z w32 c.low_of.result (search rules)
-    ∙ answer_there low_weight (pos 0) c.low_of.result b.pool.now b.records.now c.args.i _ here (λ s. c.low_of.ensures)
-
-pub returns-in-None : goal.returns-in-None
-returns-in-None c =
-    let b = c.args.self.now in
-    irregular_lookup (low_weight) (pos 0) (low_none) (record_terms b.pool.now b.records.now) c.args.i _ refl c.in-None.ensures
+pub returns : goal.returns
+returns c =
+    to_z-of_z w32 c.map_or.result (search rules)
+    ∙ answer_found low_weight (pos 0) low_none _ c.args.i c.regular_record.result c.map_or.result (λ s r. refl) c.regular_record.ensures (search (rules, tests))

@@ -1,20 +1,12 @@
--- The exponent of a regular record is the top weight of its term.
-use Rattle.std.proofs.Common.{pos, refl, ◌∙◌, w32, rules}
+-- The top weight of the regular record that is found.
+use Rattle.std.proofs.Common.{pos, refl, ◌∙◌, w32, rules, tests}
 use Rattle.std.proofs.lemmas.Int.{to_z-of_z}
 use Rattle.batch.specs.Term.{top_weight}
-use Rattle.batch.proofs.Lookups.{irregular_lookup, top_none}
-use Rattle.limb_batch.specs.Records.{record_terms}
-use Rattle.limb_batch.proofs.RecordTerms.{answer_there, top_is}
+use Rattle.batch.proofs.Lookups.{top_none}
+use Rattle.limb_batch.proofs.RecordTerms.{answer_found}
 use Rattle.limb_batch.proofs.opened.LimbBatchBatch.top.Goals as goal
 
-pub returns-in-Some : goal.returns-in-Some
-returns-in-Some c =
-    let b = c.args.self.now in
-    let here = c.in-Some.ensures in
-    to_z-of_z w32 c.top_of.result (search rules)
-    ∙ answer_there top_weight (pos 0) c.top_of.result b.pool.now b.records.now c.args.i _ here (λ s. c.top_of.ensures ∙ top_is b.pool.now _ b.words here.sound)
-
-pub returns-in-None : goal.returns-in-None
-returns-in-None c =
-    let b = c.args.self.now in
-    irregular_lookup (top_weight) (pos 0) (top_none) (record_terms b.pool.now b.records.now) c.args.i _ refl c.in-None.ensures
+pub returns : goal.returns
+returns c =
+    to_z-of_z w32 c.map_or.result (search rules)
+    ∙ answer_found top_weight (pos 0) top_none _ c.args.i c.regular_record.result c.map_or.result (λ s r. refl) c.regular_record.ensures (search (rules, tests))

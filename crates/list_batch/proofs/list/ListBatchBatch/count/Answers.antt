@@ -1,9 +1,10 @@
--- More terms than a batch may have, or all of them.
-use Rattle.list_batch.proofs.Places.{count_cut, count_whole}
+-- All terms of the records, which are few.
+use Rattle.std.proofs.Common.{rules}
+use Rattle.list_batch.proofs.Places.{count_whole}
 use Rattle.list_batch.proofs.list.ListBatchBatch.count.Goals as goal
 
-pub returns-then-self-each : goal.returns-then-self-each
-returns-then-self-each g c = count_cut g.R.Record.lawful _ _ c.each-each.ensures c.if-self-each.true
+pub overflow_mul-result : goal.overflow_mul-result
+overflow_mul-result g c = let whole = count_whole g.R.Record.lawful c.args.self.now.records.now _ c.TERMS.ensures in let few = c.args.self.now.few in search rules
 
-pub returns-else-self-each : goal.returns-else-self-each
-returns-else-self-each g c = count_whole g.R.Record.lawful _ _ c.each-each.ensures c.if-self-each.false
+pub returns : goal.returns
+returns g c = count_whole g.R.Record.lawful c.args.self.now.records.now _ c.TERMS.ensures

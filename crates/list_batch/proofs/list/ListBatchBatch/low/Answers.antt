@@ -1,13 +1,9 @@
--- The low weight of the term that is spelled.
-use Rattle.std.proofs.Common.{pos, ◌∙◌, w32, rules}
+-- The low weight of the term that is found.
+use Rattle.std.proofs.Common.{pos, ◌∙◌, w32, rules, tests}
 use Rattle.std.proofs.lemmas.Int.{to_z-of_z}
 use Rattle.batch.specs.Term.{low_weight}
-use Rattle.list_batch.specs.WordTerms.{spelled}
-use Rattle.list_batch.specs.Lists.{list_terms}
-use Rattle.list_batch.proofs.Places.{lookup_spelled}
+use Rattle.list_batch.proofs.Places.{answer_spelled}
 use Rattle.list_batch.proofs.list.ListBatchBatch.low.Goals as goal
 
 pub returns : goal.returns
-returns g c =
-    let ts = list_terms g.R.Record.parts c.args.self.now.records.now in
-    to_z-of_z w32 c.low.result (search rules) ∙ lookup_spelled low_weight (pos 0) ts c.args.i (spelled c.term.result) c.low.result c.term.ensures c.low.ensures
+returns g c = to_z-of_z w32 c.map_or.result (search rules) ∙ answer_spelled low_weight (pos 0) _ c.args.i c.term.result c.map_or.result c.term.ensures (search (rules, tests))
