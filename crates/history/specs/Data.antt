@@ -7,7 +7,8 @@ use Rattle.history.specs.declared.call.SheetCall.TheVariants.{Mark, Undo, Set, R
 use Rattle.history.specs.declared.outcome.CallFault.{CallFault}
 use Rattle.history.specs.declared.outcome.CallFault.TheVariants.{Sheet, OutOfTurn}
 
-abbrev pub call_of : SheetCall → Call (Unit {0})
+-- the call of a history that a call of a list is; it asks nothing, so it stands among asks with any questions
+abbrev pub call_of : {Q : Type 0} → SheetCall → Call Q
 call_of (Mark p k) = marking p k
 call_of Undo = undoing
 call_of Set = setting

@@ -21,5 +21,5 @@ loop-i-preserved c =
     let room : c.loop-i.i < length c.loop-i.outcomes = omega (arith, c.loop-i.auto.outcomes) in
     let reached = c.loop-i.invariant.reaches in
     law_more (calls_of calls) i c.args.outcomes.now c.loop-i.outcomes c.loop-i.sheet c.call-next.result.0 _ c.call-next.result.1
-    (omega (arith, length-map calls call_of)) room (get_or-map call_of calls i (Mark 0 0) undoing within ∙ ap call_of (sym (get_or-take n calls i (Mark 0 0) turn)))
+    (omega (arith, length-map calls (call_of {Q = Unit {0}}))) room (get_or-map call_of calls i (Mark 0 0) undoing within ∙ ap (call_of {Q = Unit {0}}) (sym (get_or-take n calls i (Mark 0 0) turn)))
     (c.call-next.ensures.answers (take i (calls_of calls)) reached) (c.call-next.ensures.reaches (take i (calls_of calls)) reached) c.loop-i.invariant
