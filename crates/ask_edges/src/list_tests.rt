@@ -1,17 +1,20 @@
 // Lists of calls, asks among them.
-use ask_history::call::{Asking, SheetCall};
+use ask_history::call::{Asking, Call};
 use ask_history::no_terms::NoTerms;
-use ask_history::outcome::{CallFault, Outcome};
+use ask_history::outcome::Outcome;
 use ask_history::run::run;
 use grid::FreeGrid;
+use history::call::SheetCall;
+use history::outcome::CallFault;
 use sheet::mark::Mark;
+use sheet::marked::MarkedSheet;
 
 // The number of a refusal; 0 where the call was done, and 1 where it was answered.
 fn number(outcome: &Outcome) -> u32 {
     match outcome {
-        Outcome::Done => 0,
-        Outcome::Answered(_) => 1,
-        Outcome::Refused(fault) => fault.number(),
+        Ok(None) => 0,
+        Ok(Some(_)) => 1,
+        Err(fault) => fault.number(),
     }
 }
 
@@ -28,8 +31,12 @@ fn nearest(grid: FreeGrid) -> Asking<FreeGrid> {
 #[test]
 fn room_for_fewer_outcomes(rt: HostRuntime) {
     let none = NoTerms {};
-    let calls: [SheetCall<FreeGrid>; 3] = [SheetCall::Mark(9, 1), SheetCall::Set, SheetCall::Undo];
-    let mut outcomes = [Outcome::Refused(CallFault::OutOfTurn); 2];
+    let calls: [Call<FreeGrid>; 3] = [
+        SheetCall::Mark(9, 1).into(),
+        SheetCall::Set.into(),
+        SheetCall::Undo.into(),
+    ];
+    let mut outcomes = [Err(CallFault::OutOfTurn.into()); 2];
     let sheet = run(&[&none], &calls, &mut outcomes);
     assert_eq!(rt; number(&outcomes[0]), 0);
     assert_eq!(rt; number(&outcomes[1]), 0);
@@ -44,27 +51,31 @@ fn asks_refused(rt: HostRuntime) {
         assert!(rt; false);
         return;
     };
-    let mut no_mode = nearest(grid);
-    no_mode.mode = 5;
-    let mut no_terms = nearest(grid);
-    no_terms.batch = 1;
-    no_terms.limbs = 2;
+    let no_mode = Asking {
+        mode: 5,
+        ..nearest(grid)
+    };
+    let no_terms = Asking {
+        batch: 1,
+        limbs: 2,
+        ..nearest(grid)
+    };
     let calls = [
-        SheetCall::Mark(7, 1),
-        SheetCall::Set,
-        SheetCall::Ask(no_mode),
-        SheetCall::Ask(nearest(grid)),
-        SheetCall::Ask(no_terms),
+        SheetCall::Mark(7, 1).into(),
+        SheetCall::Set.into(),
+        Call::Ask(no_mode),
+        Call::Ask(nearest(grid)),
+        Call::Ask(no_terms),
     ];
-    let mut outcomes = [Outcome::Done; 5];
+    let mut outcomes = [Ok(None); 5];
     run(&[&none], &calls, &mut outcomes);
     assert_eq!(rt; number(&outcomes[2]), 15);
     assert_eq!(rt; number(&outcomes[3]), 16);
     match outcomes[4] {
-        Outcome::Refused(fault) => {
+        Err(fault) => {
             assert_eq!(rt; fault.number(), 17);
             assert_eq!(rt; fault.place(), 7);
         }
-        Outcome::Done | Outcome::Answered(_) => assert!(rt; false),
+        Ok(_) => assert!(rt; false),
     }
 }

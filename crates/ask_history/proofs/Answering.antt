@@ -1,5 +1,5 @@
 -- The law of an ask of a list, from what the ask itself promises, and asks whose batch and grid keep their laws.
-use Rattle.std.proofs.Common.{◌≡◌, ℕ, zero, suc, ◌<◌, ◌≤◌, List, [], ◌∷◌, ◌++◌, map, length, get_or, ℤ, Result, sym, refl, ap, ◌∙◌, subst}
+use Rattle.std.proofs.Common.{◌≡◌, ℕ, zero, suc, ◌<◌, ◌≤◌, List, [], ◌∷◌, ◌++◌, map, length, get_or, Some, Ok, Result, sym, refl, ap, ◌∙◌, subst}
 use Rattle.std.proofs.lemmas.List.{get_or-map, get_or_past, length-map, take_at}
 use Rattle.grid.specs.Spacing.{Lawful}
 use Rattle.batch.specs.Term.{Term, Batchable}
@@ -10,12 +10,8 @@ use Rattle.answers.specs.Trace.{Event, event, history_of, reply_after, TracedSet
 use Rattle.ask.specs.declared.answer.Answer.{Answer}
 use Rattle.ask.specs.declared.fault.AskFault.{AskFault}
 use Rattle.ask.specs.Told.{published, told}
-use Rattle.ask_history.specs.declared.call.SheetCall.{SheetCall}
-use Rattle.ask_history.specs.declared.call.SheetCall.TheVariants.{Mark, Undo, Set as SetCall, Reopen, Ask}
-use Rattle.ask_history.specs.declared.outcome.Outcome.{Outcome}
-use Rattle.ask_history.specs.declared.outcome.Outcome.TheVariants.{Answered}
-use Rattle.ask_history.specs.declared.any_sheet.Sheet.TheVariants.{Set}
-use Rattle.ask_history.specs.Data.{call_of, reply_told}
+use Rattle.history.specs.declared.any_sheet.Sheet.TheVariants.{Set}
+use Rattle.ask_history.specs.Data.{Outcome, reply_told}
 use Rattle.ask_history.specs.Law.{CallLaw}
 use Rattle.ask_history.specs.NoTerms.{none_batchable}
 
@@ -34,7 +30,7 @@ ask_law s q n m o r ls same tells answers reached =
     })
 
 -- an outcome that holds the answer, its limbs and more tells the answer with its limbs
-pub held : (a : Answer) (ls rest : List ℕ) (n : ℕ) → length ls ≡ n → reply_told (Answered (record { answer = a; limbs = ls ++ rest; lent = n })) ≡ answered (published a ls)
+pub held : (a : Answer) (ls rest : List ℕ) (n : ℕ) → length ls ≡ n → reply_told (Ok (Some (record { answer = a; limbs = ls ++ rest; lent = n }))) ≡ answered (published a ls)
 held a ls rest n long = ap (λ (l : List ℕ). answered (published a l)) (take_at ls rest n long)
 
 -- the terms of the batch that a number names
@@ -49,12 +45,3 @@ pub named_batchable : {X : Type 0} (terms : X → List Term) (limited : (x : X) 
 named_batchable terms limited [] i = none_batchable
 named_batchable terms limited (x ∷ xs) zero = limited x
 named_batchable terms limited (x ∷ xs) (suc i) = named_batchable terms limited xs i
-
--- so that the terms and the grid of every call of a list keep their laws
-pub proper_call : {G : Type 0} (spacing : G → ℤ → ℤ) (widest : G → ℕ) (batches : List (List Term)) → ((g : G) → Lawful (spacing g) (widest g)) → ((i : ℕ) → Batchable (get_or batches i []))
-    → (c : SheetCall G) → ProperCall (call_of spacing widest batches c)
-proper_call spacing widest batches lawful limited (Mark p k) = tt
-proper_call spacing widest batches lawful limited Undo = tt
-proper_call spacing widest batches lawful limited SetCall = tt
-proper_call spacing widest batches lawful limited Reopen = tt
-proper_call spacing widest batches lawful limited (Ask a) = record { batchable = limited a.batch; lawful = lawful a.grid }

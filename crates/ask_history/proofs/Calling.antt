@@ -1,75 +1,88 @@
--- The law of one call, from what the sheet's own methods promise.
-use Rattle.std.proofs.Common.{◌≡◌, Bool, true, false, List, [], ◌∷◌, ◌++◌, is_err, Ok, Err, Result, sym, refl, ap, ◌∙◌, subst}
-use Rattle.std.proofs.lemmas.Bool.{cond-true, cond-false, false≢true}
-use Rattle.sheet.specs.declared.fault.SheetFault.{SheetFault}
+-- The law of a sheet's own call, from what the sheet promises, and of an ask out of turn.
+use Rattle.std.proofs.Common.{◌≡◌, Bool, true, false, cond, List, [], ◌∷◌, ◌++◌, is_some, Some, None, Err, Option, sym, refl, ap, ◌∙◌, subst}
+use Rattle.std.proofs.lemmas.Bool.{cond-false, false≢true}
 use Rattle.sheet.specs.declared.sheet.OpenSheet.{OpenSheet}
-use Rattle.sheet.specs.Model.{Call, History}
-use Rattle.sheet.specs.Numbers.{told}
-use Rattle.sheet.specs.Reached.{Reached}
-use Rattle.history.specs.Turns.{fits, opens, open_after, fitting}
-use Rattle.answers.specs.Asked.{Question, Reply}
-use Rattle.answers.specs.Trace.{Event, event, without_question, history_of, reply_of, reply_in_turn, reply_after, ProperCall}
-use Rattle.ask_history.specs.declared.outcome.CallFault.TheVariants.{OutOfTurn}
-use Rattle.ask_history.specs.declared.outcome.Outcome.{Outcome}
-use Rattle.ask_history.specs.declared.outcome.Outcome.TheVariants.{Refused}
-use Rattle.ask_history.specs.declared.any_sheet.Sheet.{Sheet}
-use Rattle.ask_history.specs.declared.any_sheet.Sheet.TheVariants.{Open}
-use Rattle.ask_history.specs.Data.{reply_told, is_refusal, is_answer}
+use Rattle.sheet.specs.Model.{Call, asking, History, refusal_after}
+use Rattle.sheet.specs.Numbers.{Refusal, refused_by}
+use Rattle.history.specs.declared.any_sheet.Sheet.{Sheet}
+use Rattle.history.specs.declared.any_sheet.Sheet.TheVariants.{Open}
+use Rattle.history.specs.declared.call.SheetCall.{SheetCall}
+use Rattle.history.specs.declared.call.SheetCall.TheVariants.{Mark, Undo, Set, Reopen}
+use Rattle.history.specs.declared.outcome.CallFault.TheVariants.{OutOfTurn}
+use Rattle.history.specs.Data.{Outcome as SheetOutcome, call_of, outcome_tells}
+use Rattle.history.specs.Reaches.{Reaches}
+use Rattle.history.specs.Turns.{fits, open_after, fitting, told_after}
+use Rattle.history.proofs.Reaching.{stays_open}
+use Rattle.answers.specs.Asked.{Question, Reply, refused}
+use Rattle.answers.specs.Laws.{Proper}
+use Rattle.answers.specs.Trace.{Event, without_question, history_of, reply_of, reply_in_turn, reply_after, ProperCall}
+use Rattle.ask_history.specs.declared.outcome.CallFault.TheVariants.{Call as CallRefused}
+use Rattle.ask_history.specs.Data.{Outcome, reply_told, is_refusal, is_answer}
 use Rattle.ask_history.specs.Law.{CallLaw}
-use Rattle.answers.proofs.Traces.{trace_goes_on}
-use Rattle.ask_history.proofs.Leading.{is_open, Leads, On, traced_on, on_traced, state_push, fitting_more, fitting_same}
+use Rattle.ask_history.specs.Traced.{Traced}
+use Rattle.ask_history.proofs.Leading.{traced_reaches, traced_on}
 
--- a call that fits the state of the sheet
-pub call_in_turn : (s t : Sheet) (c : Call Question) (o : Outcome) → ProperCall c → fits (is_open s) c ≡ true → opens (is_open s) c ≡ is_open t
-    → ((cs : History) → Leads cs s → reply_told o ≡ reply_in_turn cs c) → ((cs : History) → Leads cs s → Leads (cs ++ without_question c ∷ []) t)
-    → (is_refusal (reply_told o) ≡ true → t ≡ s) → (is_answer (reply_told o) ≡ true → t ≡ s) → CallLaw s c t o
-call_in_turn s t c o proper fit state gets leads refused answered =
-    let fits_here : (h : List Event) → On h s → fits (open_after (history_of h)) c ≡ true = λ h a. ap (λ (b : Bool). fits b c) a.state ∙ fit in
-    let got : (h : List Event) → On h s → reply_told o ≡ reply_after (history_of h) c = λ h a. gets (fitting (history_of h)) a.leads ∙ sym (cond-true _ _ _ (fits_here h a)) in
-    let goes : (h : List Event) → On h s → On (h ++ event c (reply_told o) ∷ []) t = λ h a. record {
-      lawful = trace_goes_on h c (reply_told o) a.lawful proper (got h a);
-      state = state_push h c (reply_told o) ∙ ap (λ (b : Bool). opens b c) a.state ∙ state;
-      leads = subst (λ (cs : History). Leads cs t) (sym (fitting_more h c (reply_told o) (fits_here h a))) (leads (fitting (history_of h)) a.leads);
-    } in
+-- a sheet's own call asks nothing
+own_without : (c : SheetCall) → without_question (call_of c) ≡ call_of c
+own_without (Mark p k) = refl
+own_without Undo = refl
+own_without Set = refl
+own_without Reopen = refl
+
+own_proper : (c : SheetCall) → ProperCall (call_of c)
+own_proper (Mark p k) = tt
+own_proper Undo = tt
+own_proper Set = tt
+own_proper Reopen = tt
+
+-- so that what it gets among asks is what it is told on a sheet that is never asked
+own_reply_in : (b : Bool) (cs : History) (c : SheetCall) → cond (fits b (call_of {Q = Question} c)) (reply_in_turn cs (call_of c)) (refused (refused_by 20))
+    ≡ reply_of (cond (fits b (call_of {Q = Unit {0}} c)) (refusal_after cs (call_of c)) (Some (refused_by 20)))
+own_reply_in true cs (Mark p k) = refl
+own_reply_in false cs (Mark p k) = refl
+own_reply_in true cs Undo = refl
+own_reply_in false cs Undo = refl
+own_reply_in true cs Set = refl
+own_reply_in false cs Set = refl
+own_reply_in true cs Reopen = refl
+own_reply_in false cs Reopen = refl
+
+own_reply : (cs : History) (c : SheetCall) → reply_after cs (call_of c) ≡ reply_of (told_after cs (call_of c))
+own_reply cs c = own_reply_in (open_after cs) (fitting cs) c
+
+-- what tells of a refusal is one, and none tells of an answer
+refusal_told : (x : Option Refusal) → is_refusal (reply_of x) ≡ true → is_some x ≡ true
+refusal_told None e = e
+refusal_told (Some r) e = refl
+
+no_answer : (x : Option Refusal) → is_answer (reply_of x) ≡ false
+no_answer None = refl
+no_answer (Some r) = refl
+
+pub own_call : (s t : Sheet) (c : SheetCall) (x : SheetOutcome) (o : Outcome) → reply_told o ≡ reply_of (outcome_tells x)
+    → ((cs : History) → Reaches cs s → outcome_tells x ≡ told_after cs (call_of c)) → ((cs : History) → Reaches cs s → Reaches (cs ++ call_of c ∷ []) t)
+    → (is_some (outcome_tells x) ≡ true → t ≡ s) → CallLaw s (call_of c) t o
+own_call s t c x o tells answers reaches stays =
+    let got : (h : List Event) → Traced h s → reply_told o ≡ reply_after (history_of h) (call_of c)
+            = λ h a. tells ∙ ap reply_of (answers (history_of h) (traced_reaches h s a)) ∙ sym (own_reply (history_of h) c) in
     record {
-      answers = λ h a. got h (traced_on h s a);
-      traced = λ h a. on_traced (h ++ event c (reply_told o) ∷ []) t (goes h (traced_on h s a));
-      when_refused = refused;
-      when_answered = answered;
+      answers = got;
+      traced = λ h a. traced_on h s t (call_of c) (reply_told o) (own_proper c) a (got h a)
+          (subst (λ (d : Call (Unit {0})). Reaches (history_of h ++ d ∷ []) t) (sym (own_without c)) (reaches (history_of h) (traced_reaches h s a)));
+      when_refused = λ e. stays (refusal_told (outcome_tells x) (ap is_refusal (sym tells) ∙ e));
+      when_answered = λ e. absurd (false≢true (sym (no_answer (outcome_tells x)) ∙ ap is_answer (sym tells) ∙ e));
     }
 
--- a call out of turn
-pub call_out_of_turn : (s : Sheet) (c : Call Question) → ProperCall c → fits (is_open s) c ≡ false → opens (is_open s) c ≡ is_open s → CallLaw s c s (Refused OutOfTurn)
-call_out_of_turn s c proper unfit state =
-    let r : Reply = reply_told (Refused OutOfTurn) in
-    let unfit_here : (h : List Event) → On h s → fits (open_after (history_of h)) c ≡ false = λ h a. ap (λ (b : Bool). fits b c) a.state ∙ unfit in
-    let got : (h : List Event) → On h s → r ≡ reply_after (history_of h) c = λ h a. sym (cond-false _ _ _ (unfit_here h a)) in
-    let goes : (h : List Event) → On h s → On (h ++ event c r ∷ []) s = λ h a. record {
-      lawful = trace_goes_on h c r a.lawful proper (got h a);
-      state = state_push h c r ∙ ap (λ (b : Bool). opens b c) a.state ∙ state;
-      leads = subst (λ (cs : History). Leads cs s) (sym (fitting_same h c r (unfit_here h a))) a.leads;
-    } in
+-- an ask of an open sheet
+pub ask_out_of_turn : (s : OpenSheet) (q : Question) → Proper q → CallLaw (Open s) (asking q) (Open s) (Err (CallRefused OutOfTurn))
+ask_out_of_turn s q proper =
+    let r : Reply = refused (refused_by 20) in
+    let got : (h : List Event) → Traced h (Open s) → r ≡ reply_after (history_of h) (asking q)
+            = λ h a. sym (cond-false _ _ _ (ap (λ (b : Bool). fits b (asking q)) a.state)) in
     record {
-      answers = λ h a. got h (traced_on h s a);
-      traced = λ h a. on_traced (h ++ event c r ∷ []) s (goes h (traced_on h s a));
+      answers = got;
+      traced = λ h a. traced_on h (Open s) (Open s) (asking q) r proper a (got h a)
+          (stays_open (history_of h) (asking tt) s a.state (ap (λ (b : Bool). fits b (asking tt)) a.state) a.reached);
       when_refused = λ _. refl;
       when_answered = λ _. refl;
     }
-
--- what tells of a refusal is an error, and no call but an ask tells of an answer
-told_err : {T : Type 0} (r : Result T SheetFault) → is_refusal (reply_of (told r)) ≡ true → is_err r ≡ true
-told_err (Ok x) e = e
-told_err (Err f) e = refl
-
-no_answer : {T : Type 0} (r : Result T SheetFault) → is_answer (reply_of (told r)) ≡ false
-no_answer (Ok x) = refl
-no_answer (Err f) = refl
-
--- a call that fits an open sheet, leaves it open, and may be refused
-pub call_on_open : {T : Type 0} (s t : OpenSheet) (c : Call Question) (o : Outcome) (r : Result T SheetFault) → ProperCall c → fits true c ≡ true → opens true c ≡ true
-    → reply_told o ≡ reply_of (told r) → ((cs : History) → Reached cs s → reply_of (told r) ≡ reply_in_turn cs c) → ((cs : History) → Reached cs s → Reached (cs ++ without_question c ∷ []) t)
-    → (is_err r ≡ true → t ≡ s) → CallLaw (Open s) c (Open t) o
-call_on_open s t c o r proper fit state tells gets leads refused =
-    call_in_turn (Open s) (Open t) c o proper fit state (λ cs a. tells ∙ gets cs a) leads
-    (λ e. ap Open (refused (told_err r (ap is_refusal (sym tells) ∙ e))))
-    (λ e. absurd (false≢true (sym (no_answer r) ∙ ap is_answer (sym tells) ∙ e)))

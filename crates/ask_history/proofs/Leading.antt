@@ -1,71 +1,34 @@
--- A trace that leads to a sheet in either state, and one call more.
-use Rattle.std.proofs.Common.{◌≡◌, ℕ, Bool, true, false, List, [], ◌∷◌, ◌++◌, refl, ap, ◌∙◌}
+-- A trace leads to a sheet as the history of its calls does, and goes on with one call more.
+use Rattle.std.proofs.Common.{◌≡◌, ℕ, List, [], ◌∷◌, ◌++◌, sym, subst}
 use Rattle.std.proofs.lemmas.List.{map_push}
-use Rattle.sheet.specs.Model.{Call, marking, undoing, setting, reopening, asking, History, model, mark_after}
-use Rattle.sheet.specs.Reached.{Reached, ReachedSet}
-use Rattle.sheet.specs.Shown.{shown}
-use Rattle.history.specs.Turns.{fits, opens, open_after, fitting}
-use Rattle.sheet.specs.Undo.{undoes}
-use Rattle.sheet.proofs.Agreeing.{agrees_shows}
-use Rattle.history.proofs.Turning.{open_after_push, fitting_push, fitting_skip}
+use Rattle.sheet.specs.Model.{Call, History}
+use Rattle.history.specs.declared.any_sheet.Sheet.{Sheet}
+use Rattle.history.specs.declared.any_sheet.Sheet.TheVariants.{Open, Set}
+use Rattle.history.specs.Reaches.{Reaches, shown_on}
+use Rattle.history.proofs.Reaching.{reaches_marks}
 use Rattle.answers.specs.Asked.{Question, Reply}
-use Rattle.answers.specs.Trace.{Event, event, without_question, history_of, LawfulTrace}
-use Rattle.ask_history.specs.declared.any_sheet.Sheet.{Sheet}
-use Rattle.ask_history.specs.declared.any_sheet.Sheet.TheVariants.{Open, Set}
-use Rattle.ask_history.specs.Traced.{Traced, shown_on}
+use Rattle.answers.specs.Trace.{Event, event, without_question, history_of, marks_after, reply_after, LawfulTrace, ProperCall}
+use Rattle.answers.proofs.Traces.{trace_goes_on}
+use Rattle.ask_history.specs.Traced.{Traced}
 
-abbrev pub is_open : Sheet → Bool
-is_open (Open s) = true
-is_open (Set s) = false
+pub traced_lawful : (h : List Event) (s : Sheet) → Traced h s → LawfulTrace h
+traced_lawful h (Open s) a = a.lawful
+traced_lawful h (Set s) a = a.lawful
 
--- calls that all fit lead to the sheet
-abbrev pub Leads : History → Sheet → Type 0
-Leads cs (Open s) = Reached cs s
-Leads cs (Set s) = ReachedSet cs s
+pub traced_reaches : (h : List Event) (s : Sheet) → Traced h s → Reaches (history_of h) s
+traced_reaches h (Open s) a = (a.state, a.reached)
+traced_reaches h (Set s) a = (a.state, a.reached)
 
--- a trace that leads to a sheet, in parts that are named alike in both states
-pub record On (h : List Event) (s : Sheet) : Type 0 where
-  pub lawful : LawfulTrace h
-  pub state : open_after (history_of h) ≡ is_open s
-  pub leads : Leads (fitting (history_of h)) s
+pub reaches_traced : (h : List Event) (s : Sheet) → LawfulTrace h → Reaches (history_of h) s → Traced h s
+reaches_traced h (Open s) lawful a = record { lawful = lawful; state = a.0; reached = a.1 }
+reaches_traced h (Set s) lawful a = record { lawful = lawful; state = a.0; reached = a.1 }
 
-pub traced_on : (h : List Event) (s : Sheet) → Traced h s → On h s
-traced_on h (Open s) a = record { lawful = a.lawful; state = a.state; leads = a.reached }
-traced_on h (Set s) a = record { lawful = a.lawful; state = a.state; leads = a.reached }
+pub traced_marks : (h : List Event) (s : Sheet) → Traced h s → (p : ℕ) → shown_on s p ≡ marks_after h p
+traced_marks h s a p = reaches_marks (history_of h) s (traced_reaches h s a) p
 
-pub on_traced : (h : List Event) (s : Sheet) → On h s → Traced h s
-on_traced h (Open s) a = record { lawful = a.lawful; state = a.state; reached = a.leads }
-on_traced h (Set s) a = record { lawful = a.lawful; state = a.state; reached = a.leads }
-
-pub leads_marks : (cs : History) (s : Sheet) → Leads cs s → (p : ℕ) → shown_on s p ≡ mark_after cs p
-leads_marks cs (Open s) a p = agrees_shows (model cs) (shown s.marks) (undoes s.trail) a p
-leads_marks cs (Set s) a p = a p
-
--- the state of a sheet does not depend on what is asked
-fits_without : (b : Bool) (c : Call Question) → fits b (without_question c) ≡ fits b c
-fits_without b (marking p k) = refl
-fits_without b undoing = refl
-fits_without b setting = refl
-fits_without b reopening = refl
-fits_without true (asking q) = refl
-fits_without false (asking q) = refl
-
-opens_without : (b : Bool) (c : Call Question) → opens b (without_question c) ≡ opens b c
-opens_without b (marking p k) = refl
-opens_without b undoing = refl
-opens_without b setting = refl
-opens_without b reopening = refl
-opens_without b (asking q) = refl
-
-module _ (h : List Event) (c : Call Question) (r : Reply) where
-  pub history_push : history_of (h ++ event c r ∷ []) ≡ history_of h ++ without_question c ∷ []
-  history_push = map_push (λ (e : Event). without_question e.call) h (event c r)
-
-  pub state_push : open_after (history_of (h ++ event c r ∷ [])) ≡ opens (open_after (history_of h)) c
-  state_push = ap open_after history_push ∙ open_after_push (history_of h) (without_question c) ∙ opens_without (open_after (history_of h)) c
-
-  pub fitting_more : fits (open_after (history_of h)) c ≡ true → fitting (history_of (h ++ event c r ∷ [])) ≡ fitting (history_of h) ++ without_question c ∷ []
-  fitting_more fit = ap fitting history_push ∙ fitting_push (history_of h) (without_question c) (fits_without (open_after (history_of h)) c ∙ fit)
-
-  pub fitting_same : fits (open_after (history_of h)) c ≡ false → fitting (history_of (h ++ event c r ∷ [])) ≡ fitting (history_of h)
-  fitting_same unfit = ap fitting history_push ∙ fitting_skip (history_of h) (without_question c) (fits_without (open_after (history_of h)) c ∙ unfit)
+-- with a call that got what the model says, and leads on to t
+pub traced_on : (h : List Event) (s t : Sheet) (c : Call Question) (r : Reply) → ProperCall c → Traced h s → r ≡ reply_after (history_of h) c
+    → Reaches (history_of h ++ without_question c ∷ []) t → Traced (h ++ event c r ∷ []) t
+traced_on h s t c r proper a got reached =
+    reaches_traced (h ++ event c r ∷ []) t (trace_goes_on h c r (traced_lawful h s a) proper got)
+    (subst (λ (cs : History). Reaches cs t) (sym (map_push (λ (e : Event). without_question e.call) h (event c r))) reached)

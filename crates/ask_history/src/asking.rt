@@ -2,7 +2,7 @@
 
 ghost use Rattle.std.specs.Prelude.{[], map, slice_index_or};
 ghost use Rattle.sheet.specs.Model.{asking};
-ghost use Rattle.ask_history.specs.declared.any_sheet.Sheet.TheVariants.{Set};
+ghost use Rattle.history.specs.declared.any_sheet.Sheet.TheVariants.{Set};
 ghost use Rattle.ask_history.specs.Data.{question_of};
 ghost use Rattle.ask_history.specs.Law.{CallLaw};
 
@@ -23,14 +23,12 @@ fn ask_about<B: Batch, G: Grid + Copy>(sheet: &SetSheet, batch: &B, wanted: Aski
 {
     let lent = wanted.limbs.min(MOST_LIMBS);
     let mut limbs = [0u32; MOST_LIMBS];
-    match ask(sheet, batch, &wanted.grid, wanted.mode, &mut limbs[..lent]) {
-        Ok(answer) => Outcome::Answered(AnsweredAsk {
-            answer,
-            limbs,
-            lent,
-        }),
-        Err(fault) => Outcome::Refused(fault.into()),
-    }
+    let answer = ask(sheet, batch, &wanted.grid, wanted.mode, &mut limbs[..lent])?;
+    Ok(Some(AnsweredAsk {
+        answer,
+        limbs,
+        lent,
+    }))
 }
 
 // Asks the sheet about the batch of the list that the ask names by its number.
@@ -41,9 +39,8 @@ pub fn ask_named<'a, B: Batch, G: Grid + Copy>(
 ) -> Outcome
     ensures { CallLaw (Set sheet.now) (asking (question_of G.Grid.spacing G.Grid.widest (slice_index_or (map (λ b. B.Batch.terms b.now) batches.now) wanted.batch []) wanted)) (Set sheet.now) result }
 {
-    if wanted.batch < batches.len() {
-        ask_about(sheet, batches[wanted.batch], wanted)
-    } else {
-        ask_about(sheet, &NoTerms {}, wanted)
+    match batches.get(wanted.batch) {
+        Some(batch) => ask_about(sheet, *batch, wanted),
+        None => ask_about(sheet, &NoTerms {}, wanted),
     }
 }

@@ -2,26 +2,24 @@
 
 ghost use Rattle.std.specs.Prelude.{◌≡◌};
 ghost use Rattle.ask_history.specs.Data.{call_fault_refusal};
-ghost use Rattle.ask_history.specs.declared.outcome.CallFault.TheVariants.{Sheet, Ask};
+ghost use Rattle.ask_history.specs.declared.outcome.CallFault.TheVariants.{Call, Ask};
 
 use ask::{Answer, AskFault};
-use sheet::fault::SheetFault;
+use history::outcome::CallFault as SheetCallFault;
 
-#[derive(Clone, Copy, PartialEq, Debug)]
+#[derive(Clone, Copy, PartialEq, Eq, Debug)]
 pub enum CallFault {
-    // the sheet itself refused it
-    Sheet(SheetFault),
+    // it was refused as a sheet's own call is, or came out of turn
+    Call(SheetCallFault),
     // the ask was refused
     Ask(AskFault),
-    // it does not fit the state that the sheet is in
-    OutOfTurn,
 }
 
-impl From<SheetFault> for CallFault {
-    ghost from_gives = { λ f r. r ≡ Sheet f };
+impl From<SheetCallFault> for CallFault {
+    ghost from_gives = { λ f r. r ≡ Call f };
 
-    fn from(fault: SheetFault) -> CallFault {
-        CallFault::Sheet(fault)
+    fn from(fault: SheetCallFault) -> CallFault {
+        CallFault::Call(fault)
     }
 }
 
@@ -39,9 +37,8 @@ impl CallFault {
         ensures { result ≡ (call_fault_refusal self).number }
     {
         match self {
-            CallFault::Sheet(refused) => refused.number(),
+            CallFault::Call(refused) => refused.number(),
             CallFault::Ask(refused) => refused.number(),
-            CallFault::OutOfTurn => 20,
         }
     }
 
@@ -50,8 +47,8 @@ impl CallFault {
         ensures { result ≡ (call_fault_refusal self).place }
     {
         match self {
+            CallFault::Call(_) => 0,
             CallFault::Ask(refused) => refused.place(),
-            CallFault::Sheet(_) | CallFault::OutOfTurn => 0,
         }
     }
 }
@@ -60,13 +57,10 @@ impl CallFault {
 #[derive(Clone, Copy)]
 pub struct AnsweredAsk {
     pub answer: Answer,
+    // An array and its length: a caller makes room for outcomes by copying one, as [outcome; 8], and an ArrayVec cannot be copied.
     pub limbs: [u32; 128],
     pub lent: usize,
 }
 
-#[derive(Clone, Copy)]
-pub enum Outcome {
-    Done,
-    Refused(CallFault),
-    Answered(AnsweredAsk),
-}
+// It was refused, or done, with an answer where it asked.
+pub type Outcome = Result<Option<AnsweredAsk>, CallFault>;

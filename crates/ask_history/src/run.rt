@@ -3,25 +3,27 @@
 ghost use Rattle.std.specs.Prelude.{map};
 ghost use Rattle.ask_history.specs.Law.{calls_run, EntryLaw};
 
-use crate::any_sheet::Sheet;
-use crate::call::SheetCall;
+use crate::any_sheet::{call, new_sheet};
+use crate::call::Call;
 use crate::outcome::Outcome;
 use batch::Batch;
 use grid::Grid;
+use history::any_sheet::Sheet;
 
 // Runs the calls on a new sheet, in order, as many as `outcomes` has room for, and writes what each got. Their asks name batches by their numbers in `batches`.
 pub fn run<'a, B: Batch, G: Grid + Copy>(
     batches: &[&'a B],
-    calls: &[SheetCall<G>],
+    calls: &[Call<G>],
     outcomes: &mut [Outcome],
 ) -> Sheet
     ensures { EntryLaw (calls_run G.Grid.spacing G.Grid.widest (map (λ b. B.Batch.terms b.now) batches.now) calls.now outcomes.old) outcomes.old outcomes.new result }
 {
     let turns = calls.len().min(outcomes.len());
-    let mut sheet = Sheet::new();
-    for i in 0..turns {
-        let (next, outcome) = sheet.call(batches, calls[i]);
+    let mut sheet = new_sheet();
+    for (i, &wanted) in calls[..turns].iter().enumerate() {
+        let (next, outcome) = call(sheet, batches, wanted);
         sheet = next;
+        // By index: of a slice written through iter_mut a proof knows the length, not the elements.
         outcomes[i] = outcome;
     }
     sheet

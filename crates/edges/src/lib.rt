@@ -4,10 +4,11 @@
 #[cfg(test)]
 mod tests {
     use history::call::SheetCall;
-    use history::outcome::{CallFault, Outcome};
+    use history::outcome::CallFault;
     use history::run::run;
     use sheet::fault::SheetFault;
     use sheet::mark::Mark;
+    use sheet::marked::MarkedSheet;
     use sheet::sheet::OpenSheet;
 
     #[test]
@@ -38,10 +39,9 @@ mod tests {
     #[test]
     fn room_for_fewer_outcomes(rt: HostRuntime) {
         let calls = [SheetCall::Mark(9, 1), SheetCall::Set, SheetCall::Undo];
-        let mut outcomes = [Outcome::Refused(CallFault::OutOfTurn); 2];
+        let mut outcomes = [Err(CallFault::OutOfTurn); 2];
         let sheet = run(&calls, &mut outcomes);
-        assert_eq!(rt; outcomes[0], Outcome::Done);
-        assert_eq!(rt; outcomes[1], Outcome::Done);
+        assert_eq!(rt; outcomes, [Ok(()); 2]);
         assert_eq!(rt; sheet.mark_at(9), Mark::In);
     }
 }

@@ -1,12 +1,10 @@
 -- The law over a list of calls, call by call.
-use Rattle.std.proofs.Common.{◌≡◌, ℕ, ◌+◌, ◌<◌, List, [], ◌∷◌, ◌++◌, length, get_or, take, drop, set, sym, refl, ap, ◌∙◌, subst, ⊎_elim, arith}
+use Rattle.std.proofs.Common.{◌≡◌, ℕ, ◌+◌, ◌<◌, List, [], ◌∷◌, ◌++◌, length, get_or, take, drop, set, Ok, sym, refl, ap, ◌∙◌, subst, ⊎_elim, arith}
 use Rattle.std.proofs.lemmas.List.{length_push, get_or_push, get_or_append_left, get_or-set_same, get_or-set_other, take_at, take-append-le, take_more, length-take-le, drop-drop, drop-set-lt}
 use Rattle.std.proofs.lemmas.Bool.{cases_eq}
 use Rattle.sheet.specs.Model.{Call, History, undoing}
-use Rattle.history.specs.declared.outcome.Outcome.{Outcome}
-use Rattle.history.specs.declared.outcome.Outcome.TheVariants.{Done}
 use Rattle.history.specs.declared.any_sheet.Sheet.{Sheet}
-use Rattle.history.specs.Data.{outcome_tells}
+use Rattle.history.specs.Data.{Outcome, outcome_tells}
 use Rattle.history.specs.Law.{EntryLaw}
 use Rattle.history.specs.Reaches.{Reaches}
 use Rattle.history.specs.Turns.{told_after}
@@ -28,12 +26,12 @@ law_push cs before written s t c o room told a law =
     record {
       answers = λ i within. ⊎_elim
           (λ (last : i ≡ n).
-          ap outcome_tells (subst (λ (j : ℕ). get_or (set written n o) j Done ≡ o) (sym last) (get_or-set_same written n o Done room))
+          ap outcome_tells (subst (λ (j : ℕ). get_or (set written n o) j (Ok tt) ≡ o) (sym last) (get_or-set_same written n o (Ok tt) room))
           ∙ told ∙ ap (λ (h : History). told_after h c) (sym (take_at cs (c ∷ []) i (sym last)))
           ∙ ap (told_after (take i (cs ++ c ∷ []))) (sym (get_or_push cs c undoing i (sym last))))
           (λ (earlier : i ≡ n → ⊥).
           let inside : i < length cs = omega (arith, longer, earlier) in
-          ap outcome_tells (get_or-set_other written n i o Done earlier) ∙ law.answers i inside
+          ap outcome_tells (get_or-set_other written n i o (Ok tt) earlier) ∙ law.answers i inside
           ∙ ap (λ (h : History). told_after h (get_or cs i undoing)) (sym (take-append-le i cs (c ∷ []) (omega arith)))
           ∙ ap (told_after (take i (cs ++ c ∷ []))) (sym (get_or_append_left cs (c ∷ []) undoing i inside)))
           (cases_eq i n);

@@ -2,30 +2,20 @@
 
 ghost use Rattle.std.specs.Prelude.{◌≡◌, ℕ, true, List, [], ◌∷◌, ◌++◌, is_some};
 ghost use Rattle.sheet.specs.Model.{History, mark_after};
-ghost use Rattle.sheet.specs.Numbers.{told};
 ghost use Rattle.history.specs.Data.{call_of, outcome_tells};
 ghost use Rattle.history.specs.Reaches.{Reaches, shown_on};
 ghost use Rattle.history.specs.Turns.{told_after, fitting};
 
 use crate::call::SheetCall;
 use crate::outcome::{CallFault, Outcome};
-use sheet::fault::SheetFault;
 use sheet::mark::Mark;
+use sheet::marked::MarkedSheet;
 use sheet::sheet::{OpenSheet, SetSheet};
 
 #[derive(Drop)]
 pub enum Sheet {
     Open(OpenSheet),
     Set(SetSheet),
-}
-
-fn outcome_of(returned: Result<(), SheetFault>) -> Outcome
-    ensures { outcome_tells result ≡ told returned }
-{
-    match returned {
-        Ok(()) => Outcome::Done,
-        Err(fault) => Outcome::Refused(fault.into()),
-    }
 }
 
 fn call_open(mut sheet: OpenSheet, call: SheetCall) -> (Sheet, Outcome)
@@ -35,15 +25,15 @@ fn call_open(mut sheet: OpenSheet, call: SheetCall) -> (Sheet, Outcome)
 {
     match call {
         SheetCall::Mark(place, mark) => {
-            let result = sheet.mark(place, mark);
-            (Sheet::Open(sheet), outcome_of(result))
+            let outcome = sheet.mark(place, mark).map_err(CallFault::from);
+            (Sheet::Open(sheet), outcome)
         }
         SheetCall::Undo => {
-            let result = sheet.undo();
-            (Sheet::Open(sheet), outcome_of(result))
+            let outcome = sheet.undo().map_err(CallFault::from);
+            (Sheet::Open(sheet), outcome)
         }
-        SheetCall::Set => (Sheet::Set(sheet.set()), Outcome::Done),
-        SheetCall::Reopen => (Sheet::Open(sheet), Outcome::Refused(CallFault::OutOfTurn)),
+        SheetCall::Set => (Sheet::Set(sheet.set()), Ok(())),
+        SheetCall::Reopen => (Sheet::Open(sheet), Err(CallFault::OutOfTurn)),
     }
 }
 
@@ -53,9 +43,9 @@ fn call_set(sheet: SetSheet, call: SheetCall) -> (Sheet, Outcome)
     ensures refused { is_some (outcome_tells result.1) ≡ true → result.0 ≡ Sheet.Set sheet }
 {
     match call {
-        SheetCall::Reopen => (Sheet::Open(sheet.reopen()), Outcome::Done),
+        SheetCall::Reopen => (Sheet::Open(sheet.reopen()), Ok(())),
         SheetCall::Mark(_, _) | SheetCall::Undo | SheetCall::Set => {
-            (Sheet::Set(sheet), Outcome::Refused(CallFault::OutOfTurn))
+            (Sheet::Set(sheet), Err(CallFault::OutOfTurn))
         }
     }
 }
@@ -79,12 +69,16 @@ impl Sheet {
             Sheet::Set(sheet) => call_set(sheet, call),
         }
     }
+}
 
-    // The mark of a place; out for a number past the last place.
-    pub fn mark_at(&self, place: u32) -> Mark
-        ensures shows { result ≡ shown_on self.now place }
-        ensures answers { (cs : History) → Reaches cs self.now → result ≡ mark_after (fitting cs) place }
-    {
+impl MarkedSheet for Sheet {
+    ghost shown_at = { shown_on };
+
+    ghost reached_by = { Reaches };
+
+    ghost marked_after = { λ cs. mark_after (fitting cs) };
+
+    fn mark_at(&self, place: u32) -> Mark {
         match self {
             Sheet::Open(sheet) => sheet.mark_at(place),
             Sheet::Set(sheet) => sheet.mark_at(place),

@@ -1,6 +1,6 @@
 // A call on a sheet, as data.
 
-#[derive(Clone, Copy, PartialEq, Eq, Debug)]
+#[derive(Clone, Copy, PartialEq, Eq, Hash, Debug)]
 pub enum SheetCall {
     // any two numbers: the place, and the mark
     Mark(u32, u32),

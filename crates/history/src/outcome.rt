@@ -6,13 +6,16 @@ ghost use Rattle.history.specs.declared.outcome.CallFault.TheVariants.{Sheet};
 
 use sheet::fault::SheetFault;
 
-#[derive(Clone, Copy, PartialEq, Debug)]
+#[derive(Clone, Copy, PartialEq, Eq, Hash, Debug)]
 pub enum CallFault {
     // the sheet itself refused it
     Sheet(SheetFault),
     // it does not fit the state that the sheet is in
     OutOfTurn,
 }
+
+// It was done, or refused.
+pub type Outcome = Result<(), CallFault>;
 
 impl From<SheetFault> for CallFault {
     ghost from_gives = { λ f r. r ≡ Sheet f };
@@ -32,10 +35,4 @@ impl CallFault {
             CallFault::OutOfTurn => 20,
         }
     }
-}
-
-#[derive(Clone, Copy, PartialEq, Debug)]
-pub enum Outcome {
-    Done,
-    Refused(CallFault),
 }

@@ -12,9 +12,10 @@ pub fn run(calls: &[SheetCall], outcomes: &mut [Outcome]) -> Sheet
 {
     let turns = calls.len().min(outcomes.len());
     let mut sheet = Sheet::new();
-    for i in 0..turns {
-        let (next, outcome) = sheet.call(calls[i]);
+    for (i, &call) in calls[..turns].iter().enumerate() {
+        let (next, outcome) = sheet.call(call);
         sheet = next;
+        // By index: of a slice written through iter_mut a proof knows the length, not the elements.
         outcomes[i] = outcome;
     }
     sheet

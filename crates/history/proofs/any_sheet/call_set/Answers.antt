@@ -1,25 +1,18 @@
 use Rattle.std.proofs.Common.{◌≡◌, false, [], ◌∷◌, ◌++◌, sym, refl, ap, ◌∙◌, subst, inl, inr}
-use Rattle.std.proofs.lemmas.Bool.{false≢true}
 use Rattle.sheet.specs.Model.{Call, reopening}
 use Rattle.history.specs.declared.call.SheetCall.{SheetCall}
 use Rattle.history.specs.declared.any_sheet.Sheet.TheVariants.{Open}
 use Rattle.history.specs.Data.{call_of}
 use Rattle.history.specs.Reaches.{Reaches}
-use Rattle.history.specs.Turns.{fits, opens, fitting, told_after}
+use Rattle.history.specs.Turns.{fits, opens, fitting}
 use Rattle.history.proofs.Reaching.{turns_open, stays_set}
-use Rattle.history.proofs.Turning.{told_in_turn, told_out_of_turn}
+use Rattle.history.proofs.Turning.{told_out_of_turn}
 use Rattle.history.proofs.any_sheet.call_set.Goals as goal
 
-pub returns-in-Reopen : goal.returns-in-Reopen
-returns-in-Reopen c =
-    let is : call_of c.args.call ≡ reopening = ap call_of c.in-Reopen.is in
-    record {
-      answers = λ cs a. sym (told_in_turn cs reopening (ap (λ b. fits {Q = Unit {0}} b reopening) a.0)) ∙ ap (told_after cs) (sym is);
-      reaches = λ cs a.
-          subst (λ (d : Call (Unit {0})). Reaches (cs ++ d ∷ []) (Open c.reopen.result)) (sym is)
-          (turns_open cs reopening c.reopen.result refl (ap (λ b. fits {Q = Unit {0}} b reopening) a.0) (c.reopen.ensures.reached (fitting cs) a.1));
-      refused = λ e. absurd (false≢true e);
-    }
+pub returns-in-Reopen-clause-reaches : goal.returns-in-Reopen-clause-reaches
+returns-in-Reopen-clause-reaches c = λ cs a.
+    subst (λ (x : SheetCall). Reaches (cs ++ call_of x ∷ []) (Open c.reopen.result)) (sym c.in-Reopen.is)
+    (turns_open cs reopening c.reopen.result refl (ap (λ b. fits {Q = Unit {0}} b reopening) a.0) (c.reopen.ensures.reached (fitting cs) a.1))
 
 -- a call that is none of a set sheet's: it does not fit, and the sheet stays set
 abbrev Foreign : Call (Unit {0}) → Type 0

@@ -1,4 +1,4 @@
-use Rattle.std.proofs.Common.{◌≡◌, [], ◌∷◌, ◌++◌, sym, ◌∙◌, subst, arith, rules}
+use Rattle.std.proofs.Common.{◌≡◌, [], ◌∷◌, ◌++◌, sym, ◌∙◌, subst, rules}
 use Rattle.sheet.specs.declared.trail.Step.{Step}
 use Rattle.sheet.specs.declared.trail.Trail.{Trail}
 use Rattle.sheet.specs.Numbers.{refused_by}

@@ -1,0 +1,6 @@
+use Rattle.answers.proofs.Traces.{trace_starts}
+use Rattle.ask_history.proofs.Leading.{reaches_traced}
+use Rattle.ask_history.proofs.any_sheet.new_sheet.Goals as goal
+
+pub returns : goal.returns
+returns c = reaches_traced _ _ trace_starts c.new.ensures
