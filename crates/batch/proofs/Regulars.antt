@@ -1,7 +1,9 @@
--- The step of a loop that counts the regular terms by their kinds.
-use Rattle.std.proofs.Common.{◌≡◌, ℕ, ◌+◌, ◌<◌, Bool, true, false, List, length, get_or, take, sym, refl, ap, ◌∙◌}
-use Rattle.std.proofs.lemmas.List.{get_or-map}
-use Rattle.std.proofs.lemmas.List.Sums.{count_by_more_yes, count_by_more_no}
+-- The regular terms, told and counted by their kinds.
+use Rattle.std.proofs.Common.{◌≡◌, ℕ, ◌+◌, ◌<◌, Bool, true, false, cond, List, [], ◌∷◌, length, map, get_or, sym, refl, ap, ◌∙◌}
+use Rattle.std.specs.List.{count_by, fold, range_with_len}
+use Rattle.std.proofs.lemmas.List.{get_or-map, length-map}
+use Rattle.std.proofs.lemmas.List.Folds.{fold-map}
+use Rattle.std.proofs.lemmas.List.FromFn.{fill_by_all}
 use Rattle.batch.specs.Term.{Term, not_a_number, infinite, signed_zero, regular, is_regular, regular_terms}
 use Rattle.batch.specs.TermKinds.{kind_of, kind_is_regular}
 use Rattle.batch.specs.Lookup.{kind_of_term}
@@ -22,8 +24,14 @@ pub regular_at : (ts : List Term) (i : ℕ) (k : Kind) (b : Bool) → i < length
 regular_at ts i k b h e f =
     regular_by_kind (get_or ts i not_a_number) ∙ ap kind_is_regular (sym (get_or-map kind_of ts i not_a_number Absent h)) ∙ ap kind_is_regular (sym e) ∙ sym f
 
-pub count_regular : (ts : List Term) (i : ℕ) (k : Kind) (b : Bool) → i < length ts → k ≡ kind_of_term ts i → b ≡ kind_is_regular k → b ≡ true → regular_terms (take (i + 1) ts) ≡ regular_terms (take i ts) + 1
-count_regular ts i k b h e f r = count_by_more_yes is_regular ts i not_a_number h (regular_at ts i k b h e f ∙ r)
+-- a count of the kinds is a count of the terms
+counted_by_kind : (n : ℕ) (ts : List Term) → fold (λ a k. a + cond (kind_is_regular k) 1 0) n (map kind_of ts) ≡ fold (λ a t. a + cond (is_regular t) 1 0) n ts
+counted_by_kind n [] = refl
+counted_by_kind n (t ∷ ts) = ap (λ b. fold (λ a k. a + cond (kind_is_regular k) 1 0) (n + cond b 1 0) (map kind_of ts)) (sym (regular_by_kind t)) ∙ counted_by_kind (n + cond (is_regular t) 1 0) ts
 
-pub count_other : (ts : List Term) (i : ℕ) (k : Kind) (b : Bool) → i < length ts → k ≡ kind_of_term ts i → b ≡ kind_is_regular k → b ≡ false → regular_terms (take (i + 1) ts) ≡ regular_terms (take i ts)
-count_other ts i k b h e f r = count_by_more_no is_regular ts i not_a_number h (regular_at ts i k b h e f ∙ r)
+-- the kinds of all the terms, asked one by one
+kinds_asked : (ts : List Term) → map kind_of ts ≡ map (kind_of_term ts) (range_with_len 0 (length ts))
+kinds_asked ts = fill_by_all (kind_of_term ts) (map kind_of ts) (length ts) Absent (length-map ts kind_of) (λ k h. refl)
+
+pub regulars_asked : (ts : List Term) → count_by (λ i. kind_is_regular (kind_of_term ts i)) (range_with_len 0 (length ts)) ≡ regular_terms ts
+regulars_asked ts = sym (fold-map (λ a k. a + cond (kind_is_regular k) 1 0) (kind_of_term ts) 0 (range_with_len 0 (length ts))) ∙ ap (count_by kind_is_regular) (sym (kinds_asked ts)) ∙ counted_by_kind 0 ts

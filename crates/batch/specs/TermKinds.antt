@@ -23,6 +23,29 @@ kinds = NotANumber ∷ PositiveInfinity ∷ NegativeInfinity ∷ PositiveZero �
 abbrev pub kind_numbered : ℕ → Kind
 kind_numbered n = slice_index_or kinds n Absent
 
+-- the infinity of a sign
+abbrev pub infinity : Bool → Kind
+infinity negative = cond negative NegativeInfinity PositiveInfinity
+
+-- the zero of a sign
+abbrev pub zero_of_sign : Bool → Kind
+zero_of_sign negative = cond negative NegativeZero PositiveZero
+
+-- the regular kind of a sign
+abbrev pub number_of_sign : Bool → Kind
+number_of_sign negative = cond negative Negative Positive
+
+-- the kind with the other sign
+abbrev pub turned_kind : Kind → Kind
+turned_kind NotANumber = NotANumber
+turned_kind PositiveInfinity = NegativeInfinity
+turned_kind NegativeInfinity = PositiveInfinity
+turned_kind PositiveZero = NegativeZero
+turned_kind NegativeZero = PositiveZero
+turned_kind Positive = Negative
+turned_kind Negative = Positive
+turned_kind Absent = Absent
+
 -- the kinds of the regular terms
 abbrev pub kind_is_regular : Kind → Bool
 kind_is_regular NotANumber = false
@@ -48,9 +71,9 @@ kind_is_finite Absent = false
 -- the kind of a term
 abbrev pub kind_of : Term → Kind
 kind_of not_a_number = NotANumber
-kind_of (infinite s) = cond s NegativeInfinity PositiveInfinity
-kind_of (signed_zero s) = cond s NegativeZero PositiveZero
-kind_of (regular s m q) = cond s Negative Positive
+kind_of (infinite s) = infinity s
+kind_of (signed_zero s) = zero_of_sign s
+kind_of (regular s m q) = number_of_sign s
 
 -- the term of a kind, m * 2 ^ q where it is regular
 abbrev pub term_of_kind : Kind → ℕ → ℤ → Term

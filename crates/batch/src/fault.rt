@@ -5,26 +5,19 @@ ghost use Rattle.batch.specs.Faults.{record_fault_number, fault_number, fault_pl
 // What is wrong with one record.
 #[derive(Clone, Copy, PartialEq, Eq, Debug)]
 pub enum RecordFault {
-    UnknownKind,
-    PrecisionOutOfRange,
-    ExponentOutOfRange,
-    LimbsPastPool,
-    TopBitClear,
-    LowBitSet,
+    UnknownKind = 2,
+    PrecisionOutOfRange = 3,
+    ExponentOutOfRange = 4,
+    LimbsPastPool = 5,
+    TopBitClear = 6,
+    LowBitSet = 7,
 }
 
 impl RecordFault {
     pub fn number(self) -> u32
         ensures { result ≡ record_fault_number self }
     {
-        match self {
-            RecordFault::UnknownKind => 2,
-            RecordFault::PrecisionOutOfRange => 3,
-            RecordFault::ExponentOutOfRange => 4,
-            RecordFault::LimbsPastPool => 5,
-            RecordFault::TopBitClear => 6,
-            RecordFault::LowBitSet => 7,
-        }
+        self as u32
     }
 }
 

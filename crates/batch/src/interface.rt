@@ -34,11 +34,5 @@ pub trait Batch {
 pub fn regular_count<B: Batch>(b: &B) -> usize
     ensures { result ≡ regular_terms (B.terms b.now) }
 {
-    let mut found: usize = 0;
-    for i in 0..b.count() {
-        if b.kind(i).is_regular() {
-            found += 1;
-        }
-    }
-    found
+    (0..b.count()).filter(|&i| b.kind(i).is_regular()).count()
 }

@@ -4,6 +4,8 @@ ghost use Rattle.std.specs.Float.Ieee.{size};
 ghost use Rattle.exact.specs.Limbs.{limbs_value};
 ghost use Rattle.limbs.specs.Bits.{bit_of, any_below, most_limbs};
 
+use crate::magnitude::{LIMB, Magnitude};
+
 // The limb at a place, and 0 past the last.
 fn limb(limbs: &[u32], i: usize) -> u32
     ensures { result ≡ slice_index limbs.now i }
@@ -12,20 +14,28 @@ fn limb(limbs: &[u32], i: usize) -> u32
 }
 
 // The 32 bits from the bit `at` on: they lie in two limbs.
-pub fn bits_at(limbs: &[u32], at: usize) -> u32
+fn limb_bits_at(limbs: &[u32], at: usize) -> u32
     ensures { result ≡ limbs_value limbs.now / 2 ^ at % 2 ^ 32 }
 {
     let low = limb(limbs, at / 32);
     let high = limb(limbs, at / 32 + 1);
     let pair = ((high as u64) << 32) + low as u64;
-    ((pair >> (at % 32)) & 0xffff_ffff) as u32
+    ((pair >> (at % 32)) % LIMB) as u32
+}
+
+impl<'a> Magnitude for &'a [u32] {
+    ghost value = { λ s. limbs_value s.now };
+
+    fn bits_at(&self, at: usize) -> u32 {
+        limb_bits_at(self, at)
+    }
 }
 
 // The bit at a place.
 pub fn bit_at(limbs: &[u32], at: usize) -> bool
     ensures { result ≡ bit_of (limbs_value limbs.now) at }
 {
-    bits_at(limbs, at) % 2 == 1
+    limbs.bits_at(at) % 2 == 1
 }
 
 // Is any bit below the bit `at` set?

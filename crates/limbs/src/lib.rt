@@ -2,7 +2,11 @@
 #![tactic(auto)]
 
 mod bits;
+mod bounded;
+mod magnitude;
 mod top;
 
-pub use bits::{any_below, bit_at, bit_length, bits_at};
+pub use bits::{any_below, bit_at, bit_length};
+pub use bounded::BoundedLimbs;
+pub use magnitude::{Magnitude, bits_from};
 pub use top::{write_power, write_rounded};

@@ -4,31 +4,18 @@ ghost use Rattle.exact.specs.Limbs.{limbs_value};
 ghost use Rattle.limbs.specs.Bits.{bit, limbs_for, most_limbs};
 ghost use Rattle.limbs.specs.Written.{Written};
 
-use crate::bits::bits_at;
+use crate::bounded::BoundedLimbs;
+use crate::magnitude::moved_bits;
 
-// The 32 bits of limbs * 2 ^ back from the bit `bits` on.
-fn top_bits(limbs: &[u32], bits: usize, back: usize) -> u32
-    ensures { result ≡ limbs_value limbs.now * 2 ^ back / 2 ^ bits % 2 ^ 32 }
-{
-    if back <= bits {
-        return bits_at(limbs, bits - back);
-    }
-    if back - bits >= 32 {
-        return 0;
-    }
-    (((bits_at(limbs, 0) as u64) << (back - bits)) & 0xffff_ffff) as u32
-}
-
-// The `bits` bits of the limbs at the top of the first `count` limbs of the answer, with 0 in the others.
-fn copy_top(limbs: &[u32], bits: usize, count: usize, answer: &mut [u32])
-    requires short { limbs_value limbs.now < 2 ^ bits }
+// The bits of the number at the top of the first `count` limbs of the answer, with 0 in the others.
+fn copy_top(number: BoundedLimbs, count: usize, answer: &mut [u32])
     requires fits { count ≤ length answer.old }
     requires few { length answer.old ≤ most_limbs }
-    ensures { limbs_value answer.new ≡ limbs_value limbs.now * 2 ^ (32 * count) / 2 ^ bits }
+    ensures { limbs_value answer.new ≡ limbs_value number.entry.limbs.now * 2 ^ (32 * count) / 2 ^ number.entry.bits }
 {
     for j in 0..answer.len() {
         answer[j] = if j < count {
-            top_bits(limbs, bits, 32 * (count - j))
+            moved_bits(&number.limbs, 32 * (count - j), number.bits)
         } else {
             0
         };
@@ -46,15 +33,14 @@ fn clear_low(answer: &mut [u32], s: usize)
 }
 
 // The first `precision` bits of the number, at the top.
-fn write_cut(limbs: &[u32], bits: usize, precision: usize, answer: &mut [u32])
-    requires short { limbs_value limbs.now < 2 ^ bits }
+fn write_cut(number: BoundedLimbs, precision: usize, answer: &mut [u32])
     requires some { 0 < precision }
     requires fits { precision ≤ 32 * length answer.old }
     requires few { length answer.old ≤ most_limbs }
-    ensures { limbs_value answer.new ≡ limbs_value limbs.now * 2 ^ precision / 2 ^ bits * 2 ^ (32 * limbs_for precision - precision) }
+    ensures { limbs_value answer.new ≡ limbs_value number.entry.limbs.now * 2 ^ precision / 2 ^ number.entry.bits * 2 ^ (32 * limbs_for precision - precision) }
 {
     let count = (precision + 31) / 32;
-    copy_top(limbs, bits, count, answer);
+    copy_top(number, count, answer);
     clear_low(answer, 32 * count - precision);
 }
 
@@ -77,21 +63,19 @@ fn add_unit(answer: &mut [u32], count: usize, s: usize) -> bool
 }
 
 // The first `precision` bits of the number, raised by one or not, at the top. Tells whether that is 2 ^ precision, which has a bit more.
-// For the rounding of an end, which counts the bits itself, and has room for them.
+// For the rounding of an end, which has room for them.
 pub fn write_rounded(
-    limbs: &[u32],
-    bits: usize,
+    number: BoundedLimbs,
     precision: usize,
     raise: bool,
     answer: &mut [u32],
 ) -> bool
-    requires short { limbs_value limbs.now < 2 ^ bits }
     requires some { 0 < precision }
     requires fits { precision ≤ 32 * length answer.old }
     requires few { length answer.old ≤ most_limbs }
-    ensures { Written (limbs_value limbs.now * 2 ^ precision / 2 ^ bits + bit raise) precision result (limbs_value answer.new) }
+    ensures { Written (limbs_value number.entry.limbs.now * 2 ^ precision / 2 ^ number.entry.bits + bit raise) precision result (limbs_value answer.new) }
 {
-    write_cut(limbs, bits, precision, answer);
+    write_cut(number, precision, answer);
     if raise {
         let count = (precision + 31) / 32;
         return add_unit(answer, count, 32 * count - precision);
@@ -106,6 +90,9 @@ pub fn write_power(count: usize, answer: &mut [u32])
     requires few { length answer.old ≤ most_limbs }
     ensures { limbs_value answer.new ≡ 2 ^ (32 * count) / 2 }
 {
-    let one = [1u32];
-    copy_top(&one, 1, count, answer);
+    let one = BoundedLimbs {
+        limbs: &[1],
+        bits: 1,
+    };
+    copy_top(one, count, answer);
 }

@@ -4,4 +4,4 @@ use Rattle.exact.specs.Limbs.{limbs_value}
 use Rattle.limbs.proofs.top.copy_top.Given as goal
 
 abbrev pub invariant-loop-j : goal.invariant-loop-j
-invariant-loop-j l = limbs_value (take l.j l.answer) ≡ limbs_value l.limbs * 2 ^ (32 * l.count) / 2 ^ l.bits % 2 ^ (32 * l.j)
+invariant-loop-j l = limbs_value (take l.j l.answer) ≡ limbs_value l.number.limbs.now * 2 ^ (32 * l.count) / 2 ^ l.number.bits % 2 ^ (32 * l.j)
