@@ -1,4 +1,3 @@
-pub mod Stack
 pub mod Notes
 pub mod Agreeing
 pub mod Refusing

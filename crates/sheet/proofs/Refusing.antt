@@ -1,20 +1,12 @@
 -- Which refusal comes first.
-use Rattle.std.proofs.Common.{◌≡◌, ℕ, ◌<◌, ◌≤◌, IsErrAnd, Some, None, Err, Result, ap, ◌∙◌}
-use Rattle.std.proofs.lemmas.Result.{err_from_is_err_and}
+use Rattle.std.proofs.Common.{◌≡◌, ℕ, ◌<◌, ◌≤◌, Some, None, ◌∙◌}
 use Rattle.std.proofs.lemmas.Bool.{cond-true, cond-false, eq-eqb, ne_eqb, lt-ltb, le-ltb}
-use Rattle.sheet.specs.declared.fault.SheetFault.{SheetFault}
-use Rattle.sheet.specs.Numbers.{refused_by, told, fault_refusal}
+use Rattle.sheet.specs.Numbers.{refused_by}
 use Rattle.sheet.specs.Model.{marking, undoing, Model, refusal}
 
 module _ (m : Model) where
   pub refused_place : (p k : ℕ) → 1023 < p → refusal {Q = Unit {0}} m (marking p k) ≡ Some (refused_by 11)
   refused_place p k far = cond-true _ _ _ (lt-ltb _ _ far)
-
-  pub refused_mark : (p k : ℕ) → p ≤ 1023 → 2 < k → refusal {Q = Unit {0}} m (marking p k) ≡ Some (refused_by 12)
-  refused_mark p k near large = cond-false _ _ _ (le-ltb _ _ near) ∙ cond-true _ _ _ (lt-ltb _ _ large)
-
-  pub refused_full : (p k : ℕ) → p ≤ 1023 → k ≤ 2 → m.h ≡ 256 → refusal {Q = Unit {0}} m (marking p k) ≡ Some (refused_by 13)
-  refused_full p k near small full = cond-false _ _ _ (le-ltb _ _ near) ∙ cond-false _ _ _ (le-ltb _ _ small) ∙ cond-true _ _ _ (eq-eqb _ _ full)
 
   pub taken_marking : (p k : ℕ) → p ≤ 1023 → k ≤ 2 → (m.h ≡ 256 → ⊥) → refusal {Q = Unit {0}} m (marking p k) ≡ None
   taken_marking p k near small room = cond-false _ _ _ (le-ltb _ _ near) ∙ cond-false _ _ _ (le-ltb _ _ small) ∙ cond-false _ _ _ (ne_eqb _ _ room)
@@ -24,7 +16,3 @@ module _ (m : Model) where
 
   pub taken_undoing : (m.h ≡ 0 → ⊥) → refusal {Q = Unit {0}} m undoing ≡ None
   taken_undoing some = cond-false _ _ _ (ne_eqb _ _ some)
-
--- what the exit of a `?` tells
-pub told_exit : {T : Type 0} {e : SheetFault} (r : Result T SheetFault) (f : SheetFault) → IsErrAnd r (λ y. y ≡ e) → e ≡ f → told r ≡ Some (fault_refusal f)
-told_exit r f exit is = let p = err_from_is_err_and r exit in ap told (p.1 ∙ ap Err (p.2 ∙ is))

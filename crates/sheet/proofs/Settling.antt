@@ -1,6 +1,7 @@
 -- What a setting settles: no later undo reaches the notes made before it.
-use Rattle.std.proofs.Common.{◌≡◌, ℕ, ◌+◌, ◌-◌, ◌<◌, ◌≤◌, false, List, [], ◌∷◌, ◌++◌, length, take, is_some, fold, sym, refl, ap, ◌∙◌, ⊎_elim, append_assoc, arith}
+use Rattle.std.proofs.Common.{◌≡◌, ℕ, ◌+◌, ◌-◌, ◌<◌, ◌≤◌, false, List, [], ◌∷◌, ◌++◌, length, take, is_some, fold, sym, ap, ◌∙◌, ⊎_elim, append_assoc, arith}
 use Rattle.std.proofs.lemmas.List.{take_all, take-take, take-append-le, length_push, length-take-le}
+use Rattle.std.proofs.lemmas.List.Sums.{fold-append}
 use Rattle.std.proofs.lemmas.Bool.{cond-false, cond_both, cases_lt, cases_eq, ne_eqb, true≢false}
 use Rattle.sheet.specs.declared.mark.Mark.{Mark}
 use Rattle.sheet.specs.Numbers.{mark_numbered}
@@ -66,10 +67,6 @@ module _ (b : ℕ) (kept : Mark) (p : ℕ) where
 settled_mark : (b : ℕ) (kept : Mark) (p : ℕ) (m : Model) → Settled b kept p m → last_mark m.notes p ≡ kept
 settled_mark b kept p m s = ap (λ (l : List Note). last_mark l p) (sym (take_all (length m.notes) m.notes (omega arith))) ∙ s.keeps (length m.notes) (omega (arith, s.reach))
 
-folded_append : (m : Model) (cs ds : History) → fold after m (cs ++ ds) ≡ fold after (fold after m cs) ds
-folded_append m [] ds = refl
-folded_append m (c ∷ cs) ds = folded_append (after m c) cs ds
-
 -- whatever follows a setting, a place that is not marked again keeps its mark
 pub kept_by_setting : (cs later : History) (p : ℕ) → Unmarked p later → mark_after (cs ++ setting ∷ later) p ≡ mark_after cs p
 kept_by_setting cs later p other =
@@ -79,7 +76,7 @@ kept_by_setting cs later p other =
       reach = omega arith;
       keeps = λ n from. ap (λ (l : List Note). last_mark l p) (take_all n m.notes from);
     } in
-    ap (λ (x : Model). last_mark x.notes p) (folded_append _ cs (setting ∷ later))
+    ap (λ (x : Model). last_mark x.notes p) (fold-append after _ cs (setting ∷ later))
     ∙ settled_mark b (mark_after cs p) p _ (settled_all b (mark_after cs p) p m later other start)
 
 unmarked_push : (p : ℕ) (cs : History) (c : Call (Unit {0})) → Unmarked p cs → Leaves p c → Unmarked p (cs ++ c ∷ [])

@@ -1,5 +1,5 @@
 -- The numbers by which callers name marks, and those under which refusals are published.
-use Rattle.std.specs.Prelude.{ℕ, cond, Some, None, Ok, Err, Option, Result, ◌==◌}
+use Rattle.std.specs.Prelude.{ℕ, cond, List, codes, Some, None, Ok, Err, Option, Result, ◌==◌}
 use Rattle.sheet.specs.declared.mark.Mark.{Mark}
 use Rattle.sheet.specs.declared.mark.Mark.TheVariants.{Out, In, Turned}
 use Rattle.sheet.specs.declared.fault.SheetFault.{SheetFault}
@@ -10,6 +10,12 @@ abbrev pub mark_number : Mark → ℕ
 mark_number Out = 0
 mark_number In = 1
 mark_number Turned = 2
+
+-- the word that is printed for a mark
+abbrev pub mark_word : Mark → List ℕ
+mark_word Out = codes "out"
+mark_word In = codes "in"
+mark_word Turned = codes "turned"
 
 -- the mark that a number up to 2 names
 abbrev pub mark_numbered : ℕ → Mark

@@ -3,12 +3,13 @@
 ghost use Rattle.std.specs.Prelude.{◌≡◌};
 ghost use Rattle.sheet.specs.Numbers.{fault_number};
 
-#[derive(Clone, Copy, PartialEq, Eq, Debug)]
+// Each refusal has its published number.
+#[derive(Clone, Copy, PartialEq, Eq, Hash, Debug)]
 pub enum SheetFault {
-    NoSuchPlace,
-    NoSuchMark,
-    TrailFull,
-    TrailEmpty,
+    NoSuchPlace = 11,
+    NoSuchMark = 12,
+    TrailFull = 13,
+    TrailEmpty = 14,
 }
 
 impl SheetFault {
@@ -16,11 +17,6 @@ impl SheetFault {
     pub fn number(self) -> u32
         ensures { result ≡ fault_number self }
     {
-        match self {
-            SheetFault::NoSuchPlace => 11,
-            SheetFault::NoSuchMark => 12,
-            SheetFault::TrailFull => 13,
-            SheetFault::TrailEmpty => 14,
-        }
+        self as u32
     }
 }

@@ -4,6 +4,7 @@
 
 pub mod fault;
 pub mod mark;
+pub mod marked;
 pub mod marks;
 mod place;
 pub mod sheet;

@@ -1,25 +1,40 @@
 // What a place of a sheet says of its term.
 
-ghost use Rattle.std.specs.Prelude.{◌≡◌, ◌<◌, ◌≤◌, MatchResult};
-ghost use Rattle.sheet.specs.Numbers.{mark_numbered, mark_number};
+ghost use Rattle.std.specs.Prelude.{◌≡◌, ◌<◌, ◌≤◌, Some, MatchResult};
+ghost use Rattle.sheet.specs.declared.fault.SheetFault.TheVariants.{NoSuchMark};
+ghost use Rattle.sheet.specs.Numbers.{mark_numbered, mark_number, mark_word};
 
 use crate::fault::SheetFault;
+use std::fmt;
 
-#[derive(Clone, Copy, PartialEq, Eq, Debug)]
+// Each mark has its published number.
+#[derive(Clone, Copy, PartialEq, Eq, Hash, Default, Debug)]
 pub enum Mark {
     // the term does not count
-    Out,
+    #[default]
+    Out = 0,
     // the term counts
-    In,
+    In = 1,
     // the term counts with the other sign
-    Turned,
+    Turned = 2,
 }
 
 impl Mark {
-    // The mark that a caller's number names.
-    pub fn numbered(number: u32) -> Result<Mark, SheetFault>
-        ensures { MatchResult result (λ m. (m ≡ mark_numbered number) × (number ≤ 2)) (λ f. (f ≡ SheetFault.NoSuchMark) × (2 < number)) }
+    // The published number of the mark.
+    pub fn number(self) -> u32
+        ensures { result ≡ mark_number self }
     {
+        self as u32
+    }
+}
+
+// The mark that a caller's number names.
+impl TryFrom<u32> for Mark {
+    type Error = SheetFault;
+
+    ghost try_from_gives = { λ number r. MatchResult r (λ m. (m ≡ mark_numbered number) × (number ≤ 2)) (λ f. (f ≡ NoSuchMark) × (2 < number)) };
+
+    fn try_from(number: u32) -> Result<Mark, SheetFault> {
         match number {
             0 => Ok(Mark::Out),
             1 => Ok(Mark::In),
@@ -27,14 +42,16 @@ impl Mark {
             _ => Err(SheetFault::NoSuchMark),
         }
     }
+}
 
-    pub fn number(self) -> u32
-        ensures { result ≡ mark_number self }
-    {
-        match self {
-            Mark::Out => 0,
-            Mark::In => 1,
-            Mark::Turned => 2,
-        }
+impl fmt::Display for Mark {
+    ghost output = { λ m. Some (mark_word m) };
+
+    fn fmt<W: fmt::Write>(&self, f: &mut fmt::Formatter<W>) -> fmt::Result {
+        f.write_str(match self {
+            Mark::Out => "out",
+            Mark::In => "in",
+            Mark::Turned => "turned",
+        })
     }
 }

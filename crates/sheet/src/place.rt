@@ -1,6 +1,7 @@
 // The number of a place that a sheet has.
 
 ghost use Rattle.std.specs.Prelude.{◌≡◌, ◌<◌, MatchResult};
+ghost use Rattle.sheet.specs.declared.fault.SheetFault.TheVariants.{NoSuchPlace};
 
 use crate::fault::SheetFault;
 
@@ -15,22 +16,33 @@ pub struct Place {
 impl Place {
     pub const FIRST: Place = Place { index: 0 };
 
-    // The place that a caller's number names.
-    pub fn numbered(number: u32) -> Result<Place, SheetFault>
-        ensures { MatchResult result (λ p. p.index ≡ number) (λ f. (f ≡ SheetFault.NoSuchPlace) × (1023 < number)) }
+    pub fn index(self) -> usize
+        ensures value { result ≡ self.index }
+        ensures on_sheet { result < 1024 }
     {
+        self.index
+    }
+}
+
+// A blank slot of a trail holds the first place.
+impl Default for Place {
+    fn default() -> Place {
+        Place::FIRST
+    }
+}
+
+// The place that a caller's number names.
+impl TryFrom<u32> for Place {
+    type Error = SheetFault;
+
+    ghost try_from_gives = { λ number r. MatchResult r (λ p. p.index ≡ number) (λ f. (f ≡ NoSuchPlace) × (1023 < number)) };
+
+    fn try_from(number: u32) -> Result<Place, SheetFault> {
         if number > LAST_PLACE {
             return Err(SheetFault::NoSuchPlace);
         }
         Ok(Place {
             index: number as usize,
         })
-    }
-
-    pub fn index(self) -> usize
-        ensures value { result ≡ self.index }
-        ensures on_sheet { result < 1024 }
-    {
-        self.index
     }
 }

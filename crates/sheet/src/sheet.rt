@@ -10,6 +10,7 @@ ghost use Rattle.sheet.specs.Shown.{shown};
 
 use crate::fault::SheetFault;
 use crate::mark::Mark;
+use crate::marked::MarkedSheet;
 use crate::marks::Marks;
 use crate::place::Place;
 use crate::trail::{Step, Trail};
@@ -45,8 +46,8 @@ impl OpenSheet {
         ensures reached { (cs : History) → Reached cs self.old → Reached (cs ++ marking place mark ∷ []) self.new }
         ensures refused { is_err result ≡ true → self.new ≡ self.old }
     {
-        let target = Place::numbered(place)?;
-        let given = Mark::numbered(mark)?;
+        let target = Place::try_from(place)?;
+        let given = Mark::try_from(mark)?;
         let before = self.mark_at(place);
         self.trail.push(Step {
             place: target,
@@ -69,14 +70,6 @@ impl OpenSheet {
         Ok(())
     }
 
-    // The mark of a place; out for a number past the last place.
-    pub fn mark_at(&self, place: u32) -> Mark
-        ensures shows { result ≡ shown self.now.marks place }
-        ensures answers { (cs : History) → Reached cs self.now → result ≡ mark_after cs place }
-    {
-        self.marks.at(place)
-    }
-
     // Sets the sheet: the marks stand, and nothing made before can be undone any more.
     pub fn set(self) -> SetSheet
         ensures reached { (cs : History) → Reached cs self → ReachedSet (cs ++ setting ∷ []) result }
@@ -88,14 +81,6 @@ impl OpenSheet {
 }
 
 impl SetSheet {
-    // The mark of a place; out for a number past the last place.
-    pub fn mark_at(&self, place: u32) -> Mark
-        ensures shows { result ≡ shown self.now.marks place }
-        ensures answers { (cs : History) → ReachedSet cs self.now → result ≡ mark_after cs place }
-    {
-        self.marks().at(place)
-    }
-
     // All marks at once, which only a set sheet shows: what an ask reads.
     pub fn marks(&self) -> &Marks
         ensures same { result.now ≡ self.now.marks }
@@ -114,5 +99,29 @@ impl SetSheet {
             trail: Trail::new(),
             marks,
         }
+    }
+}
+
+impl MarkedSheet for OpenSheet {
+    ghost shown_at = { λ s. shown s.marks };
+
+    ghost reached_by = { Reached };
+
+    ghost marked_after = { λ cs. mark_after cs };
+
+    fn mark_at(&self, place: u32) -> Mark {
+        self.marks.at(place)
+    }
+}
+
+impl MarkedSheet for SetSheet {
+    ghost shown_at = { λ s. shown s.marks };
+
+    ghost reached_by = { ReachedSet };
+
+    ghost marked_after = { λ cs. mark_after cs };
+
+    fn mark_at(&self, place: u32) -> Mark {
+        self.marks().at(place)
     }
 }

@@ -1,14 +1,15 @@
 // The undo trail of an open sheet: the latest markings, at most 256, each with what it replaced.
 
-ghost use Rattle.std.specs.Prelude.{◌≡◌, ◌≤◌, length};
-
 use crate::mark::Mark;
 use crate::place::Place;
+use arrayvec::ArrayVec;
 
 pub mod methods;
 
+pub const LONGEST_TRAIL: usize = 256;
+
 // What undoes one marking: the place, and the mark that it had before.
-#[derive(Clone, Copy)]
+#[derive(Clone, Copy, Default)]
 pub struct Step {
     pub place: Place,
     pub before: Mark,
@@ -16,8 +17,5 @@ pub struct Step {
 
 #[derive(Drop)]
 pub struct Trail {
-    steps: [Step; 256],
-    len: usize,
-    ghost whole: { length steps ≡ 256 },
-    ghost fits: { len ≤ 256 },
+    steps: ArrayVec<Step, LONGEST_TRAIL>,
 }

@@ -1,6 +1,5 @@
 -- One place more is in.
-use Rattle.std.proofs.Common.{◌≡◌, ℕ, ◌+◌, ◌<◌, ◌≤◌, cond, eqb, [], ◌∷◌, ◌++◌, is_some, IsErrAnd, Some, None, Ok, Err, Option, Result, sym, refl, ap, ◌∙◌, subst, ⊎_elim, arith, MatchResult}
-use Rattle.std.proofs.lemmas.Result.{err_from_is_err_and}
+use Rattle.std.proofs.Common.{◌≡◌, ℕ, ◌+◌, ◌<◌, ◌≤◌, cond, eqb, [], ◌∷◌, ◌++◌, is_some, Some, None, Ok, Err, Option, Result, sym, refl, ap, ◌∙◌, ⊎_elim, arith, MatchResult}
 use Rattle.std.proofs.lemmas.Bool.{cond-true, cond-false, cases_lt, cases_eq, eq-eqb, ne_eqb, lt-ltb, le-ltb, true≢false}
 use Rattle.sheet.specs.declared.mark.Mark.{Mark}
 use Rattle.sheet.specs.declared.mark.Mark.TheVariants.{In}
@@ -90,11 +89,3 @@ pub set_shows : (n h : ℕ) (s : OpenSheet) (t : SetSheet) → InFirst n h s
     → (p : ℕ) → shown t.marks p ≡ first_in n p
 set_shows n h s t at set p =
     set at.0 at.1 p ∙ ap (λ (m : Model). last_mark m.notes p) (after_done at.0 setting refl) ∙ at.2 p
-
--- the sheet that was asked for, or the only refusal
-abbrev pub Made : ℕ → Result SetSheet SheetFault → Type 0
-Made count r = MatchResult r (λ s. (p : ℕ) → shown s.marks p ≡ first_in count p) (λ f. (f ≡ NoSuchPlace) × (1024 < count))
-
--- the refusal at the exit of a `?`
-pub refused_exit : (count : ℕ) (r : Result SetSheet SheetFault) (e : SheetFault) → IsErrAnd r (λ y. y ≡ e) → e ≡ NoSuchPlace → 1024 < count → Made count r
-refused_exit count r e exit is far = let p = err_from_is_err_and r exit in subst (λ (x : Result SetSheet SheetFault). Made count x) (sym (p.1 ∙ ap Err p.2)) (is, far)

@@ -7,6 +7,7 @@ ghost use Rattle.sheet.specs.Shown.{shown};
 ghost use Rattle.whole_sheet.specs.FirstPlaces.{first_in, InFirst};
 
 use sheet::fault::SheetFault;
+use sheet::mark::Mark;
 use sheet::sheet::{OpenSheet, SetSheet};
 
 // As many markings as a sheet's trail holds.
@@ -27,7 +28,7 @@ fn with_room(sheet: OpenSheet, place: u32) -> OpenSheet
 fn mark_next(sheet: &mut OpenSheet, place: u32) -> Result<(), SheetFault>
     ensures { (h : ℕ) → h < 256 → InFirst place h sheet.old → MatchResult result (λ _. InFirst (place + 1) (h + 1) sheet.new) (λ f. (f ≡ NoSuchPlace) × (1023 < place)) }
 {
-    sheet.mark(place, 1)
+    sheet.mark(place, Mark::In as u32)
 }
 
 // Marks the first `count` places in; refused only where there are not so many.

@@ -1,12 +1,12 @@
 // Marks are read by any place number, and written at places of the sheet.
 
-ghost use Rattle.std.specs.Prelude.{◌≡◌, ℕ, if◌then◌else◌, nat_eq};
+ghost use Rattle.std.specs.Prelude.{◌≡◌, ℕ, ◌+◌, ◌-◌, length, slice_index_or, if◌then◌else◌, nat_eq};
 ghost use Rattle.sheet.specs.declared.mark.Mark.TheVariants.{Out};
 ghost use Rattle.sheet.specs.Shown.{shown};
 
 use crate::mark::Mark;
 use crate::marks::Marks;
-use crate::place::{LAST_PLACE, Place};
+use crate::place::Place;
 
 impl Marks {
     pub(crate) fn new() -> Marks
@@ -21,11 +21,18 @@ impl Marks {
     pub fn at(&self, place: u32) -> Mark
         ensures { result ≡ shown self.now place }
     {
-        if place > LAST_PLACE {
-            Mark::Out
-        } else {
-            self.places[place as usize]
-        }
+        self.places
+            .get(place as usize)
+            .copied()
+            .unwrap_or(Mark::Out)
+    }
+
+    // The marks of all places from this one on; none where it lies past the last place.
+    pub fn from(&self, place: usize) -> &[Mark]
+        ensures all { length result.now ≡ 1024 - place }
+        ensures in_order { (p : ℕ) → slice_index_or result.now p Out ≡ shown self.now (place + p) }
+    {
+        &self.places[place.min(self.places.len())..]
     }
 
     pub(crate) fn put(&mut self, place: Place, mark: Mark)

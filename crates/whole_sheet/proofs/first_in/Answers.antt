@@ -1,7 +1,7 @@
 -- Each turn empties the trail in time, so that only a place past the last is refused.
-use Rattle.std.proofs.Common.{ℕ, ◌+◌, ◌%◌, ap, ◌∙◌, arith}
+use Rattle.std.proofs.Common.{ℕ, ◌+◌, ◌%◌, ap, ◌∙◌, arith, rules}
 use Rattle.whole_sheet.specs.FirstPlaces.{first_in}
-use Rattle.whole_sheet.proofs.Marking.{set_shows, refused_exit}
+use Rattle.whole_sheet.proofs.Marking.{set_shows}
 use Rattle.whole_sheet.proofs.first_in.Goals as goal
 
 pub returns-in_err-mark_next : goal.returns-in_err-mark_next
@@ -9,7 +9,7 @@ returns-in_err-mark_next c =
     let place = c.loop-place.place in
     let inv = c.loop-place.invariant in
     let told = c.in_err-mark_next.ensures (place % 256) (omega arith) (c.with_room-sheet.ensures place inv.0 inv.1 inv.2) in
-    refused_exit c.args.count c.from_residual.result c.in_err-mark_next.field-0.0 c.from_residual.ensures.1 told.0 (omega (arith, told.1, c.loop-place-test.true))
+    search rules
 
 pub loop-place-preserved : goal.loop-place-preserved
 loop-place-preserved c =

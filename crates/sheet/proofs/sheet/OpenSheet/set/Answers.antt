@@ -3,8 +3,5 @@ use Rattle.sheet.specs.Model.{setting, model}
 use Rattle.sheet.proofs.Agreeing.{agrees_shows, then_shows}
 use Rattle.sheet.proofs.sheet.OpenSheet.set.Goals as goal
 
-pub returns : goal.returns
-returns c = record {
-  reached = λ cs a. then_shows cs setting _ refl (agrees_shows (model cs) _ _ a);
-  same = refl;
-}
+pub returns-clause-reached : goal.returns-clause-reached
+returns-clause-reached c = λ cs a. then_shows cs setting _ refl (agrees_shows (model cs) _ _ a)
