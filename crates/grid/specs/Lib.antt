@@ -6,4 +6,5 @@ pub mod Claims
 pub mod Examples
 pub mod LawfulGrids
 pub mod Formats
+pub mod Names
 pub mod Faults

@@ -4,20 +4,16 @@ ghost use Rattle.grid.specs.Faults.{fault_number, fault_place};
 
 #[derive(Clone, Copy, PartialEq, Eq, Debug)]
 pub enum GridFault {
-    WidthOutOfRange,
-    FloorOutOfRange,
-    NoSuchName,
+    WidthOutOfRange = 8,
+    FloorOutOfRange = 9,
+    NoSuchName = 10,
 }
 
 impl GridFault {
     pub fn number(self) -> u32
         ensures { result ≡ fault_number self }
     {
-        match self {
-            GridFault::WidthOutOfRange => 8,
-            GridFault::FloorOutOfRange => 9,
-            GridFault::NoSuchName => 10,
-        }
+        self as u32
     }
 
     // A grid is refused as a whole.

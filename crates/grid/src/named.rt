@@ -1,52 +1,54 @@
-// Named grids: seven binary formats, by number.
+// Named grids: seven binary formats.
 ghost use Rattle.grid.specs.contracts.floored.FlooredGridGrid.TheImpl.{ghosts as floored};
 
 mod construct;
+mod format;
 
 use crate::floored::FlooredGrid;
 use crate::interface::Grid;
+pub use format::Format;
 
-// A binary format: the width of its numbers, and the weight of its last digit.
+// The grid of a format: the width of its numbers, and the weight of its last digit.
 #[derive(Clone, Copy)]
-struct Format {
+struct Row {
     width: u32,
     floor: i32,
 }
 
-// The rows by number, from 0.
-const FORMATS: [Format; 7] = [
+// The rows of the formats, in the order of their numbers.
+const ROWS: [Row; 7] = [
     // binary16
-    Format {
+    Row {
         width: 11,
         floor: -24,
     },
     // bfloat16
-    Format {
+    Row {
         width: 8,
         floor: -133,
     },
     // binary32
-    Format {
+    Row {
         width: 24,
         floor: -149,
     },
     // binary64
-    Format {
+    Row {
         width: 53,
         floor: -1074,
     },
     // extended80
-    Format {
+    Row {
         width: 64,
         floor: -16445,
     },
     // binary128
-    Format {
+    Row {
         width: 113,
         floor: -16494,
     },
     // binary256
-    Format {
+    Row {
         width: 237,
         floor: -262378,
     },

@@ -6,15 +6,11 @@ ghost use Rattle.grid.specs.Claims.{Neighbours, Right, Distance, Monotone, Betwe
 
 use crate::interface::{Grid, nearest_end};
 
-// How many digits there are from the weight `last` up to the exponent `top`: in 64 bits no difference of the two wraps.
+// How many digits there are from the weight `last` up to the exponent `top`.
 fn digits_from(last: i32, top: i32) -> u32
     ensures { result ≡ gap top last }
 {
-    if last < top {
-        (i64::from(top) - i64::from(last)) as u32
-    } else {
-        0
-    }
+    if last < top { top.abs_diff(last) } else { 0 }
 }
 
 // How many digits the numbers of exponent e have on the grid: none where the spacing is not below e.

@@ -15,7 +15,7 @@ impl FlooredGrid {
         ensures means { IfOk result (λ g. (ghosts.spacing g ≡ floored width floor) × (ghosts.widest g ≡ width)) }
     {
         let free = FreeGrid::new(width)?;
-        if floor < -1_000_000_000 || floor > 1_000_000_000 {
+        if !(-1_000_000_000..=1_000_000_000).contains(&floor) {
             return Err(GridFault::FloorOutOfRange);
         }
         Ok(FlooredGrid { free, floor })

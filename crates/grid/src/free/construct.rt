@@ -13,7 +13,7 @@ impl FreeGrid {
         ensures refuses { result_err result ≡ width_refusal width }
         ensures means { IfOk result (λ g. (ghosts.spacing g ≡ free width) × (ghosts.widest g ≡ width)) }
     {
-        if width < 1 || width > 4096 {
+        if !(1..=4096).contains(&width) {
             return Err(GridFault::WidthOutOfRange);
         }
         Ok(FreeGrid { width })
