@@ -1,16 +1,17 @@
 -- What is written for an end is what the numbers that it stands for round to.
-use Rattle.std.proofs.Common.{◌≡◌, ℕ, suc, ◌+◌, ◌-◌, ◌*◌, ◌/◌, ◌^◌, ◌<◌, ◌≤◌, Bool, true, false, List, get_or, ℤ, pos, ◌+ℤ◌, ◌-ℤ◌, ◌≤ℤ◌, ◌<ℤ◌, sym, refl, ap, ◌∙◌, subst, inl, inr, lt_of_lt_of_le, pow-suc, arith, pow_pos, pow_mono, pow-add}
+use Rattle.std.proofs.Common.{◌≡◌, ℕ, suc, ◌+◌, ◌-◌, ◌*◌, ◌/◌, ◌^◌, ◌<◌, ◌≤◌, Bool, true, false, List, get_or, ℤ, pos, ◌+ℤ◌, ◌-ℤ◌, ◌≤ℤ◌, ◌<ℤ◌, Some, None, Option, sym, refl, ap, ◌∙◌, subst, inl, inr, lt_of_lt_of_le, pow-suc, arith, pow_pos, pow_mono, pow-add}
 use native.Mathlib.Nat.{div-eq_of_lt}
 use lib.Ieee.{size}
 use lib.Ieee.Digits.{size-lt}
 use borrow.Author.Differences.{ints}
 use Rattle.std.proofs.lemmas.Int.{by_lt_z}
-use Rattle.std.proofs.lemmas.Bool.{true≢false, false≢true}
 use Rattle.exact.specs.Integers.{signed, gap}
 use Rattle.exact.specs.Dyadic.{Dyadic, dyadic}
 use Rattle.exact.specs.Limbs.{limbs_value}
 use Rattle.exact.proofs.BitLength.{size_top}
+use Rattle.exact.specs.Dyadic.{◌≈ᴰ◌}
 use Rattle.exact.proofs.Order.{≈ᴰ_trans}
+use Rattle.exact.proofs.Scaling.{zero_scale}
 use Rattle.exact.proofs.BitLength.{pos_of_size}
 use Rattle.exact.proofs.Shifts.{shift_down, shift_up, first_bits_full, half_power}
 use Rattle.exact.proofs.LimbBits.{SmallLimbs, limb_past_value}
@@ -21,10 +22,10 @@ use Rattle.grid.proofs.Everywhere.{LawsEverywhere}
 use Rattle.limbs.specs.Bits.{bit, limbs_for}
 use Rattle.ends.specs.Directions.{direction_sign, toward}
 use Rattle.ends.specs.Ends.{StandsFor, spacing_there}
-use Rattle.ends.specs.Outcome.{RoundsTo, Placed, Answered, Right}
+use Rattle.ends.specs.Outcome.{RoundsTo, RoundsAs, Placed, Answered, limbs_taken}
 use Rattle.ends.specs.Steps.{Decided, NoneKept, SomeKept}
 use Rattle.ends.specs.declared.direction.Direction.{Direction}
-use Rattle.ends.specs.declared.rounded_end.RoundedEnd.{RoundedEnd}
+use Rattle.ends.specs.declared.rounded_end.Extent.{Extent}
 use Rattle.limbs.proofs.WrittenBits.{unused, unit_fits}
 use Rattle.ends.proofs.NumbersOfEnds.{coarse_end_rounds, fine_end_rounds}
 
@@ -44,6 +45,18 @@ in_limbs u m x s M a p v e d h i r =
     let l : p ≤ 32 * limbs_for p = omega arith in
     in_other_units u m x s M a v (e -ℤ pos (32 * limbs_for p)) d (e -ℤ pos (32 * limbs_for p)) (unused p) 0 (omega (arith, ints)) (omega (arith, ints)) (sym i ∙ omega arith) r
 
+-- no step of the grid is 0
+zeros : (s : Bool) (v : ℤ) → dyadic (signed s 0) v ≈ᴰ dyadic (pos 0) (pos 0)
+zeros false v = zero_scale (gap v (pos 0)) ∙ sym (zero_scale (gap (pos 0) v))
+zeros true v = zero_scale (gap v (pos 0)) ∙ sym (zero_scale (gap (pos 0) v))
+
+to_zero : (u : ℤ → ℤ) (m : Mode) (x : Dyadic) (s : Bool) (a : ℕ) (v d : ℤ) → RoundsTo u m x s 0 v d → RoundsAs u m x s None a d
+to_zero u m x s a v d r = record {
+  values = ≈ᴰ_trans (rounded u m x).value (dyadic (signed s 0) v) (dyadic (pos 0) (pos 0)) r.values (zeros s v);
+  signs = r.signs;
+  directions = r.directions;
+}
+
 -- a power of two in p bits
 power_placed : (u : ℤ → ℤ) (e : ℤ) (p a : ℕ) → 0 < p → e ≡ u e +ℤ pos p → a ≡ 2 ^ (32 * limbs_for p) / 2 → Placed u e p a
 power_placed u e p a h q i =
@@ -56,6 +69,13 @@ power_placed u e p a h q i =
           i ∙ half_power (32 * limbs_for p) (omega arith) ∙ ap (λ (y : ℕ). 2 ^ y) (let q : 32 * limbs_for p - 1 ≡ p - 1 + unused p = omega arith in q) ∙ pow-add 2 (p - 1) (unused p);
       precise = q;
     }
+
+of_extent : (u : ℤ → ℤ) (m : Mode) (s part : Bool) (n : ℕ) (w : ℤ) (x : Extent) (e : ℤ) (p a : ℕ) (t d : Direction) → x.exponent ≡ e → x.precision ≡ p → d ≡ t
+    → Answered u m s part n w (Some (record { exponent = e; precision = p })) (direction_sign t) a → Answered u m s part n w (Some x) (direction_sign d) a
+of_extent u m s part n w x e p a t d ee pp dd A =
+    let of : ℤ → ℕ → Extent = λ y q. record { exponent = y; precision = q } in
+    let is : of e p ≡ x = ap (λ (y : ℤ). of y p) (sym ee) ∙ ap (of x.exponent) (sym pp) in
+    rw dd (subst (λ (y : Extent). Answered u m s part n w (Some y) (direction_sign t) a) is A)
 
 -- ---- an end of exponent e, where the spacing is v
 module _ (u : ℤ → ℤ) (S : LawsEverywhere u) (m : Mode) (s part : Bool) (n : ℕ) (w e v : ℤ) (raise inexact : Bool)
@@ -106,17 +126,16 @@ module _ (u : ℤ → ℤ) (S : LawsEverywhere u) (m : Mode) (s part : Bool) (n 
         in_other_units u m x s n (M + bit raise) w v (direction_sign (toward s raise inexact)) v t 0 (omega (arith, ints)) (omega (arith, ints)) (sym c ∙ omega arith) (fine_rounds l x g))
 
     kept_answer : (a : ℕ) → a ≡ (n * 2 ^ p / 2 ^ size n + bit raise) * 2 ^ unused p → n * 2 ^ p / 2 ^ size n + bit raise < 2 ^ p
-        → Answered u m s part n w false e p (direction_sign (toward s raise inexact)) a
+        → Answered u m s part n w (Some (record { exponent = e; precision = p })) (direction_sign (toward s raise inexact)) a
     kept_answer a i l =
         let M = n * 2 ^ p / 2 ^ size n + bit raise in
         record {
-          none = λ g. absurd (false≢true g);
-          placed = λ _. record { significand = M; below = l; above = omega (arith, first_bits_full n p some nonzero); is = i; precise = pp ∙ ap (λ (y : ℤ). y +ℤ pos p) vv };
+          limbs = record { significand = M; below = l; above = omega (arith, first_bits_full n p some nonzero); is = i; precise = pp ∙ ap (λ (y : ℤ). y +ℤ pos p) vv };
           rounds = λ x g. in_limbs u m x s M a p v e (direction_sign (toward s raise inexact)) pp i (kept_rounds x g);
         }
 
     carried_answer : (a : ℕ) → a ≡ 2 ^ (32 * limbs_for q) / 2 → n * 2 ^ p / 2 ^ size n + bit raise ≡ 2 ^ p
-        → Answered u m s part n w false (e +ℤ pos 1) q (direction_sign (toward s raise inexact)) a
+        → Answered u m s part n w (Some (record { exponent = e +ℤ pos 1; precision = q })) (direction_sign (toward s raise inexact)) a
     carried_answer a i l =
         let inside = S.inside e (subst (λ (y : ℤ). y <ℤ e) vv (omega (arith, ints))) in
         let q0 : 0 < q = omega (arith, ints) in
@@ -129,14 +148,13 @@ module _ (u : ℤ → ℤ) (S : LawsEverywhere u) (m : Mode) (s part : Bool) (n 
         let c : p + j ≡ L - 1 + k = omega (arith, ints) in
         let h : 2 ^ p * 2 ^ j ≡ a * 2 ^ k = sym (pow-add 2 p j) ∙ ap (λ (t : ℕ). 2 ^ t) c ∙ pow-add 2 (L - 1) k ∙ ap (λ (t : ℕ). t * 2 ^ k) (sym (i ∙ half_power L L0)) in
         record {
-          none = λ g. absurd (false≢true g);
-          placed = λ _. power_placed u (e +ℤ pos 1) q a q0 qq i;
+          limbs = power_placed u (e +ℤ pos 1) q a q0 qq i;
           rounds = λ x g. in_other_units u m x s (2 ^ p) a v y (direction_sign (toward s raise inexact)) z j k (omega (arith, ints)) (omega (arith, ints)) h (rw (sym l) (kept_rounds x g));
         }
 
-    pub some_kept_right : (r : RoundedEnd) (a : ℕ) (d : Direction) → d ≡ toward s raise inexact → SomeKept (n * 2 ^ p / 2 ^ size n + bit raise) s e p q d r a → Right u m s part n w r a
-    some_kept_right r a d dd (h0, h1, h2, inl (h3, h4, h5, h6)) = (h0, rw (h1, h2, h3, h4, dd) (kept_answer a h5 h6))
-    some_kept_right r a d dd (h0, h1, h2, inr (h3, h4, h5, h6)) = (h0, rw (h1, h2, h3, h4, dd) (carried_answer a h5 h6))
+    pub some_kept_right : (x : Extent) (a : ℕ) (d : Direction) → d ≡ toward s raise inexact → SomeKept (n * 2 ^ p / 2 ^ size n + bit raise) e p q x a → Answered u m s part n w (Some x) (direction_sign d) a
+    some_kept_right x a d dd (inl (h1, h2, h3, h4)) = of_extent u m s part n w x e p a (toward s raise inexact) d h1 h2 dd (kept_answer a h3 h4)
+    some_kept_right x a d dd (inr (h1, h2, h3, h4)) = of_extent u m s part n w x (e +ℤ pos 1) q a (toward s raise inexact) d h1 h2 dd (carried_answer a h3 h4)
 
   -- ---- no bit is kept
   module _ (low : e ≤ℤ v) where
@@ -160,28 +178,26 @@ module _ (u : ℤ → ℤ) (S : LawsEverywhere u) (m : Mode) (s part : Bool) (n 
         let f : n / 2 ^ suc i + bit raise ≡ bit raise = ap (λ (y : ℕ). y + bit raise) a ∙ omega arith in
         subst (λ (y : ℕ). RoundsTo u m x s y v (direction_sign (toward s raise inexact))) f (coarse_rounds i c x g)
 
-    one_answer : (a : ℕ) → raise ≡ true → a ≡ 2147483648 → Answered u m s part n w false (v +ℤ pos 1) 1 (direction_sign (toward s raise inexact)) a
+    one_answer : (a : ℕ) → raise ≡ true → a ≡ 2147483648 → Answered u m s part n w (Some (record { exponent = v +ℤ pos 1; precision = 1 })) (direction_sign (toward s raise inexact)) a
     one_answer a r i =
         let f : u (v +ℤ pos 1) ≡ v = S.flat e (v +ℤ pos 1) (subst (λ (y : ℤ). e ≤ℤ y) vv low) (subst (λ (y : ℤ). (v +ℤ pos 1) ≤ℤ (y +ℤ pos 1)) vv (omega (arith, ints))) ∙ sym vv in
         record {
-          none = λ g. absurd (false≢true g);
-          placed = λ _. power_placed u (v +ℤ pos 1) 1 a (omega arith) (ap (λ (y : ℤ). y +ℤ pos 1) (sym f)) i;
+          limbs = power_placed u (v +ℤ pos 1) 1 a (omega arith) (ap (λ (y : ℤ). y +ℤ pos 1) (sym f)) i;
           rounds = λ x g. in_limbs u m x s (bit raise) a 1 v (v +ℤ pos 1) (direction_sign (toward s raise inexact)) refl (i ∙ ap (λ (b : Bool). bit b * 2147483648) (sym r)) (none_kept_rounds x g);
         }
 
-    zero_answer : (a : ℕ) → raise ≡ false → a ≡ 0 → Answered u m s part n w true v 0 (direction_sign (toward s raise inexact)) a
+    zero_answer : (a : ℕ) → raise ≡ false → a ≡ 0 → Answered u m s part n w None (direction_sign (toward s raise inexact)) a
     zero_answer a r i = record {
-      none = λ _. (i, refl, there);
-      placed = λ g. absurd (true≢false g);
-      rounds = λ x g. in_limbs u m x s (bit raise) a 0 v v (direction_sign (toward s raise inexact)) (omega (arith, ints)) (i ∙ ap (λ (b : Bool). bit b * 1) (sym r)) (none_kept_rounds x g);
+      limbs = i;
+      rounds = λ x g. to_zero u m x s a v (direction_sign (toward s raise inexact)) (subst (λ (b : Bool). RoundsTo u m x s (bit b) v (direction_sign (toward s raise inexact))) r (none_kept_rounds x g));
     }
 
-    pub none_kept_right : (r : RoundedEnd) (a : ℕ) (d : Direction) → d ≡ toward s raise inexact → NoneKept s v raise d r a → Right u m s part n w r a
-    none_kept_right r a d dd h = by_raise raise refl h
+    pub none_kept_right : (x : Option Extent) (a : ℕ) (d : Direction) → d ≡ toward s raise inexact → NoneKept v raise x a → Answered u m s part n w x (direction_sign d) a
+    none_kept_right x a d dd h = by_raise raise refl h
       where
-        by_raise : (b : Bool) → raise ≡ b → NoneKept s v b d r a → Right u m s part n w r a
-        by_raise true e1 (h0, h1, h2, h3, h4, h5) = (h0, rw (h1, h2, h3, h4, dd) (one_answer a e1 h5))
-        by_raise false e1 (h0, h1, h2, h3, h4, h5) = (h0, rw (h1, h2, h3, h4, dd) (zero_answer a e1 h5))
+        by_raise : (b : Bool) → raise ≡ b → NoneKept v b x a → Answered u m s part n w x (direction_sign d) a
+        by_raise true e1 (h1, h2) = rw (h1, dd) (one_answer a e1 h2)
+        by_raise false e1 (h1, h2) = rw (h1, dd) (zero_answer a e1 h2)
 
 -- ---- what the laws say at one exponent
 pub laws_there : (u : ℤ → ℤ) (W len : ℕ) → Lawful u W → (e v x : ℤ) → InRange e → InRange (e +ℤ pos 1) → v ≡ u e → x ≡ u (e +ℤ pos 1) → W ≤ 32 * len
@@ -192,9 +208,9 @@ laws_there u W len L e v x r0 r1 vv xx h =
     (λ l. subst (λ (y : ℤ). y ≤ℤ e) (sym xx) (L.inside e r0 (subst (λ (y : ℤ). y <ℤ e) vv l)), omega (arith, ints), omega (arith, ints))
 
 -- ---- the limbs past those that the precision takes are 0
-pub unused_limbs : (u : ℤ → ℤ) (m : Mode) (s part : Bool) (n : ℕ) (w : ℤ) (zero : Bool) (e : ℤ) (p : ℕ) (d : ℤ) (xs : List ℕ) → SmallLimbs xs
-    → Answered u m s part n w zero e p d (limbs_value xs) → (k : ℕ) → limbs_for p ≤ k → get_or xs k 0 ≡ 0
-unused_limbs u m s part n w true e p d xs f A k l = limb_past_value xs (limbs_for p) k f (subst (λ (y : ℕ). y < 2 ^ (32 * limbs_for p)) (sym (A.none refl).0) (pow_pos (32 * limbs_for p))) l
-unused_limbs u m s part n w false e p d xs f A k l =
-    let P = A.placed refl in
-    limb_past_value xs (limbs_for p) k f (subst (λ (y : ℕ). y < 2 ^ (32 * limbs_for p)) (sym P.is) (unit_fits P.significand p P.below)) l
+pub unused_limbs : (u : ℤ → ℤ) (m : Mode) (s part : Bool) (n : ℕ) (w : ℤ) (extent : Option Extent) (d : ℤ) (xs : List ℕ) → SmallLimbs xs
+    → Answered u m s part n w extent d (limbs_value xs) → (k : ℕ) → limbs_taken extent ≤ k → get_or xs k 0 ≡ 0
+unused_limbs u m s part n w None d xs f A k l = limb_past_value xs 0 k f (subst (λ (y : ℕ). y < 1) (sym A.limbs) (omega arith)) l
+unused_limbs u m s part n w (Some x) d xs f A k l =
+    let P = A.limbs in
+    limb_past_value xs (limbs_for x.precision) k f (subst (λ (y : ℕ). y < 2 ^ (32 * limbs_for x.precision)) (sym P.is) (unit_fits P.significand x.precision P.below)) l

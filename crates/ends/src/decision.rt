@@ -7,6 +7,7 @@ ghost use Rattle.ends.specs.Directions.{toward};
 ghost use Rattle.ends.specs.Ends.{raised, raises, left_out};
 
 use crate::direction::Direction;
+use crate::end::End;
 use grid::Mode;
 use limbs::{any_below, bit_at};
 
@@ -45,15 +46,15 @@ impl Decision {
     }
 }
 
-// Of the number without its bits up to the bit `at`, where a part of its last unit may be left over.
-pub fn decide(limbs: &[u32], at: usize, partial: bool, negative: bool, mode: Mode) -> Decision
+// Of the end without the bits of its magnitude up to the bit `at`.
+pub fn decide(end: End, at: usize, mode: Mode) -> Decision
     requires { at < 4294967296 }
-    ensures raise { result.raise ≡ raises (mode_of mode) negative partial (limbs_value limbs.now) at }
-    ensures inexact { result.inexact ≡ left_out partial (limbs_value limbs.now) at }
+    ensures raise { result.raise ≡ raises (mode_of mode) end.entry.negative end.entry.partial (limbs_value end.entry.whole.now) at }
+    ensures inexact { result.inexact ≡ left_out end.entry.partial (limbs_value end.entry.whole.now) at }
 {
-    let half = bit_at(limbs, at);
-    let rest = any_below(limbs, at) || partial;
-    let raise = is_raised(mode, negative, bit_at(limbs, at + 1), half, rest);
+    let half = bit_at(end.whole, at);
+    let rest = any_below(end.whole, at) || end.partial;
+    let raise = is_raised(mode, end.negative, bit_at(end.whole, at + 1), half, rest);
     Decision {
         raise,
         inexact: half || rest,

@@ -3,9 +3,11 @@
 
 mod decision;
 mod direction;
+mod end;
 mod rounded_end;
 mod rounding;
 
 pub use direction::Direction;
-pub use rounded_end::RoundedEnd;
+pub use end::End;
+pub use rounded_end::{Extent, RoundedEnd};
 pub use rounding::round_end;

@@ -10,10 +10,10 @@ ghost use Rattle.ends.specs.Outcome.{Outcome, Undetermined, Unused, Right};
 ghost use Rattle.ends.specs.Steps.{Decided, NoneKept, SomeKept};
 
 use crate::decision::{Decision, decide};
-use crate::direction::Direction;
-use crate::rounded_end::RoundedEnd;
-use grid::{Grid, Mode};
-use limbs::{bit_length, write_power, write_rounded};
+use crate::end::End;
+use crate::rounded_end::{Extent, RoundedEnd};
+use grid::{Grid, Mode, Rounding};
+use limbs::{BoundedLimbs, bit_length, write_power, write_rounded};
 
 // How far apart two integers are: in 64 bits no difference wraps.
 fn distance(high: i32, low: i32) -> usize
@@ -24,18 +24,19 @@ fn distance(high: i32, low: i32) -> usize
     (i64::from(high) - i64::from(low)) as usize
 }
 
-// Where an end lies on a grid: the weight of its units, its exponent, and the spacings at that exponent and at the next.
+// Where an end lies on a grid: the weight of its units, how many bits they are, its exponent, and the spacings at that exponent and at the next.
 #[derive(Clone, Copy)]
 struct Place {
     base: i32,
+    bits: usize,
     exponent: i32,
     unit: i32,
     next: i32,
 }
 
-// What becomes of the bits from the weight `unit` on. Nothing is left out where the units of the end are no finer.
-fn decide_at(limbs: &[u32], place: Place, partial: bool, negative: bool, mode: Mode) -> Decision
-    ensures { Decided (mode_of mode) negative partial (limbs_value limbs.now) place.base place.unit result.raise result.inexact }
+// What becomes of the bits from the spacing's weight on. Nothing is left out where the units of the end are no finer.
+fn decide_at(end: End, place: Place, mode: Mode) -> Decision
+    ensures { Decided (mode_of mode) end.entry.negative end.entry.partial (limbs_value end.entry.whole.now) place.base place.unit result.raise result.inexact }
 {
     if place.unit <= place.base {
         return Decision {
@@ -43,101 +44,57 @@ fn decide_at(limbs: &[u32], place: Place, partial: bool, negative: bool, mode: M
             inexact: false,
         };
     }
-    decide(
-        limbs,
-        distance(place.unit, place.base) - 1,
-        partial,
-        negative,
-        mode,
-    )
+    decide(end, distance(place.unit, place.base) - 1, mode)
 }
 
 // The answer where the number lies below the spacing: 0 or one step of the grid.
-fn none_kept(
-    negative: bool,
-    unit: i32,
-    raise: bool,
-    direction: Direction,
-    answer: &mut [u32],
-) -> RoundedEnd
+fn none_kept(unit: i32, raise: bool, answer: &mut [u32]) -> Option<Extent>
     requires some { 0 < length answer.old }
     requires few { length answer.old ≤ most_limbs }
     requires cap { unit <ℤ highest }
-    ensures { NoneKept negative unit raise direction result (limbs_value answer.new) }
+    ensures { NoneKept unit raise result (limbs_value answer.new) }
 {
-    if raise {
-        write_power(1, answer);
-        return RoundedEnd {
-            zero: false,
-            negative,
-            exponent: unit + 1,
-            precision: 1,
-            direction,
-        };
+    if !raise {
+        write_power(0, answer);
+        return None;
     }
-    write_power(0, answer);
-    RoundedEnd {
-        zero: true,
-        negative,
-        exponent: unit,
-        precision: 0,
-        direction,
-    }
+    write_power(1, answer);
+    Some(Extent {
+        exponent: unit + 1,
+        precision: 1,
+    })
 }
 
 // The answer where some bits are kept. Raised they may carry to 2 ^ exponent, which has as many bits as the next spacing leaves.
-fn some_kept(
-    negative: bool,
-    limbs: &[u32],
-    bits: usize,
-    place: Place,
-    raise: bool,
-    direction: Direction,
-    answer: &mut [u32],
-) -> RoundedEnd
-    requires short { limbs_value limbs.now < 2 ^ bits }
+fn some_kept(number: BoundedLimbs, place: Place, raise: bool, answer: &mut [u32]) -> Extent
     requires some { place.unit <ℤ place.exponent }
     requires inside { place.next ≤ℤ place.exponent }
     requires fits { place.exponent ≤ℤ (place.unit +ℤ pos (32 * length answer.old)) }
     requires next { (place.exponent +ℤ pos 1) ≤ℤ (place.next +ℤ pos (32 * length answer.old)) }
     requires few { length answer.old ≤ most_limbs }
     requires cap { place.exponent <ℤ highest }
-    ensures { (p q : ℕ) → place.exponent ≡ place.unit +ℤ pos p → (place.exponent +ℤ pos 1) ≡ place.next +ℤ pos q → SomeKept (limbs_value limbs.now * 2 ^ p / 2 ^ bits + bit raise) negative place.exponent p q direction result (limbs_value answer.new) }
+    ensures { (p q : ℕ) → place.exponent ≡ place.unit +ℤ pos p → (place.exponent +ℤ pos 1) ≡ place.next +ℤ pos q → SomeKept (limbs_value number.entry.limbs.now * 2 ^ p / 2 ^ number.entry.bits + bit raise) place.exponent p q result (limbs_value answer.new) }
 {
     let precision = distance(place.exponent, place.unit);
-    if write_rounded(limbs, bits, precision, raise, answer) {
-        let exponent = place.exponent + 1;
-        let precision = distance(exponent, place.next);
-        write_power((precision + 31) / 32, answer);
-        return RoundedEnd {
-            zero: false,
-            negative,
-            exponent,
+    if !write_rounded(number, precision, raise, answer) {
+        return Extent {
+            exponent: place.exponent,
             precision: precision as u32,
-            direction,
         };
     }
-    RoundedEnd {
-        zero: false,
-        negative,
-        exponent: place.exponent,
+    let exponent = place.exponent + 1;
+    let precision = distance(exponent, place.next);
+    write_power((precision + 31) / 32, answer);
+    Extent {
+        exponent,
         precision: precision as u32,
-        direction,
     }
 }
 
 // Rounds by the spacings at the exponent and at the next one: the same for every grid that has these two.
-fn round_at(
-    negative: bool,
-    limbs: &[u32],
-    bits: usize,
-    place: Place,
-    partial: bool,
-    mode: Mode,
-    answer: &mut [u32],
-) -> RoundedEnd
-    requires bits { bits ≡ size (limbs_value limbs.now) }
-    requires exponent { place.exponent ≡ place.base +ℤ pos bits }
+fn round_at(end: End, place: Place, mode: Mode, answer: &mut [u32]) -> RoundedEnd
+    requires bits { place.bits ≡ size (limbs_value end.whole.now) }
+    requires exponent { place.exponent ≡ place.base +ℤ pos place.bits }
     requires cap { place.exponent <ℤ highest }
     requires unit { place.unit <ℤ highest }
     requires inside { place.unit <ℤ place.exponent → place.next ≤ℤ place.exponent }
@@ -145,24 +102,26 @@ fn round_at(
     requires next { (place.exponent +ℤ pos 1) ≤ℤ (place.next +ℤ pos (32 * length answer.old)) }
     requires some { 0 < length answer.old }
     requires few { length answer.old ≤ most_limbs }
-    requires nonzero { partial ≡ false → 0 < limbs_value limbs.now }
-    requires determined { partial ≡ true → place.base <ℤ place.unit }
-    ensures { (u : ℤ → ℤ) (W : ℕ) → Lawful u W → place.unit ≡ u place.exponent → place.next ≡ u (place.exponent +ℤ pos 1) → Right u (mode_of mode) negative partial (limbs_value limbs.now) place.base result (limbs_value answer.new) }
+    requires nonzero { end.partial ≡ false → 0 < limbs_value end.whole.now }
+    requires determined { end.partial ≡ true → place.base <ℤ place.unit }
+    ensures { (u : ℤ → ℤ) (W : ℕ) → Lawful u W → place.unit ≡ u place.exponent → place.next ≡ u (place.exponent +ℤ pos 1) → Right u (mode_of mode) end.entry.negative end.entry.partial (limbs_value end.entry.whole.now) place.base result (limbs_value answer.new) }
 {
-    let decision = decide_at(limbs, place, partial, negative, mode);
-    let direction = decision.direction(negative);
-    if place.exponent <= place.unit {
-        return none_kept(negative, place.unit, decision.raise, direction, answer);
-    }
-    some_kept(
-        negative,
-        limbs,
-        bits,
-        place,
-        decision.raise,
+    let decision = decide_at(end, place, mode);
+    let direction = decision.direction(end.negative);
+    let extent = if place.exponent <= place.unit {
+        none_kept(place.unit, decision.raise, answer)
+    } else {
+        let number = BoundedLimbs {
+            limbs: end.whole,
+            bits: place.bits,
+        };
+        Some(some_kept(number, place, decision.raise, answer))
+    };
+    RoundedEnd {
+        negative: end.negative,
         direction,
-        answer,
-    )
+        extent,
+    }
 }
 
 // The exponent of so many bits above a column: within the exponents in question.
@@ -177,41 +136,33 @@ fn exponent_of(column: i32, bits: usize) -> i32
     32 * column + bits as i32
 }
 
-// Rounds an end: `whole` units of 2 ^ (32 * column), negative or not, and with a part of one more unit left over or not.
-// Each number that the end stands for rounds to the answer. None where a part is left over and the spacing is no more than a unit.
+// Rounds an end: each number that it stands for rounds to the answer. None where a part is left over and the spacing is no more than a unit.
 // For the ask, which meets the bounds: few limbs, columns within those of its terms, room for the width of the grid, and an exact zero told before.
-pub fn round_end<G: Grid>(
-    negative: bool,
-    whole: &[u32],
-    column: i32,
-    partial: bool,
-    grid: &G,
-    mode: Mode,
-    answer: &mut [u32],
-) -> Option<RoundedEnd>
-    requires whole { length whole.now ≤ most_limbs }
+pub fn round_end<G: Grid>(end: End, rounding: Rounding<G>, answer: &mut [u32]) -> Option<RoundedEnd>
+    requires whole { length end.whole.now ≤ most_limbs }
     requires few { length answer.old ≤ most_limbs }
-    requires room { G.widest grid.now ≤ 32 * length answer.old }
-    requires from { neg_ℤ (pos furthest_column) ≤ℤ column }
-    requires upto { column ≤ℤ pos furthest_column }
-    requires nonzero { partial ≡ false → 0 < limbs_value whole.now }
-    ensures outcome { Outcome (G.spacing grid.now) (mode_of mode) negative partial (limbs_value whole.now) (pos 32 *ℤ column) result (limbs_value answer.new) }
-    ensures undetermined { Undetermined (G.spacing grid.now) negative partial (limbs_value whole.now) (pos 32 *ℤ column) result }
+    requires room { G.widest rounding.grid.now ≤ 32 * length answer.old }
+    requires from { neg_ℤ (pos furthest_column) ≤ℤ end.column }
+    requires upto { end.column ≤ℤ pos furthest_column }
+    requires nonzero { end.partial ≡ false → 0 < limbs_value end.whole.now }
+    ensures outcome { Outcome (G.spacing rounding.entry.grid.now) (mode_of rounding.entry.mode) end.entry.negative end.entry.partial (limbs_value end.entry.whole.now) (pos 32 *ℤ end.entry.column) result (limbs_value answer.new) }
+    ensures undetermined { Undetermined (G.spacing rounding.entry.grid.now) end.entry.negative end.entry.partial (limbs_value end.entry.whole.now) (pos 32 *ℤ end.entry.column) result }
     ensures unused { Unused result answer.old answer.new }
 {
-    let bits = bit_length(whole);
-    let base = exponent_of(column, 0);
-    let exponent = exponent_of(column, bits);
-    let unit = grid.spacing(exponent);
-    if partial && unit <= base {
+    let bits = bit_length(end.whole);
+    let base = exponent_of(end.column, 0);
+    let exponent = exponent_of(end.column, bits);
+    let unit = rounding.grid.spacing(exponent);
+    if end.partial && unit <= base {
         return None;
     }
-    let next = grid.spacing(exponent + 1);
+    let next = rounding.grid.spacing(exponent + 1);
     let place = Place {
         base,
+        bits,
         exponent,
         unit,
         next,
     };
-    Some(round_at(negative, whole, bits, place, partial, mode, answer))
+    Some(round_at(end, place, rounding.mode, answer))
 }

@@ -12,11 +12,14 @@ use Rattle.ends.specs.Outcome.{Right}
 use Rattle.ends.proofs.Borders.{fine_bordered, coarse_not_bordered}
 use Rattle.ends.proofs.AnswersOfEnds.{laws_there, unused_limbs}
 use Rattle.ends.proofs.rounding.round_end.Goals as goal
-use Rattle.ends.proofs.rounding.round_end.Goals.{else-partial-via-then-partial+else-unit-base, else-partial-via-else-partial}
+use Rattle.ends.proofs.rounding.round_end.Goals.{else-end-via-then-end+else-unit-base, else-end-via-else-end}
+
+same_order : (e v x f w y : ℤ) → f ≡ e → w ≡ v → y ≡ x → (v <ℤ e → x ≤ℤ e) → w <ℤ f → y ≤ℤ f
+same_order e v x f w y a b c h = rw (a, b, c) h
 
 pub round_at-requires : goal.round_at-requires
 round_at-requires g c =
-    let s = c.args.grid.now in
+    let s = c.args.rounding.grid.now in
     let u = g.G.Grid.spacing s in
     let L = g.G.Grid.lawful s in
     let w = c.exponent_of-base.result in
@@ -39,27 +42,27 @@ round_at-requires g c =
       exponent = omega (arith, ints, c.exponent_of-exponent.ensures.is, c.exponent_of-base.ensures.is);
       cap = omega (arith, ints, c.exponent_of-exponent.ensures.upto);
       unit = omega (arith, ints, cap, V);
-      inside = λ l. let m = f.0 (omega (arith, ints, l)) in omega (arith, ints, m);
+      inside = same_order e v x _ _ _ E (to_z-of_z w32 v vf) (to_z-of_z w32 x xf) f.0;
       fits = omega (arith, ints, f.1);
       next = omega (arith, ints, f.2);
       some = omega (arith, c.requires.room, L.width_low);
       few = c.requires.few;
       nonzero = c.requires.nonzero;
-      determined = λ p. elim c.else-partial.branch [
-        | else-partial-via-then-partial+else-unit-base k ↦ omega (arith, ints, k.if-unit-base.false)
-        | else-partial-via-else-partial k ↦ absurd (both_ways c.args.partial k.if-partial.false p)
+      determined = λ p. elim c.else-end.branch [
+        | else-end-via-then-end+else-unit-base k ↦ omega (arith, ints, k.if-unit-base.false)
+        | else-end-via-else-end k ↦ absurd (both_ways c.args.end.partial k.if-end.false p)
       ];
     }
 
 pub returns-then-unit-base : goal.returns-then-unit-base
 returns-then-unit-base g c =
-    let s = c.args.grid.now in
+    let s = c.args.rounding.grid.now in
     let u = g.G.Grid.spacing s in
-    let n = limbs_value c.args.whole.now in
+    let n = limbs_value c.args.end.whole.now in
     let w = c.exponent_of-base.result in
     let e = c.exponent_of-exponent.result in
     let v = c.spacing-unit.result in
-    let h = c.args.column in
+    let h = c.args.end.column in
     let ef : SFits w32 e = search rules in
     let vf : SFits w32 v = search rules in
     let wf : SFits w32 w = search rules in
@@ -68,23 +71,23 @@ returns-then-unit-base g c =
     let l : v ≤ℤ (pos 32 *ℤ h) = omega (arith, ints, c.if-unit-base.true, c.exponent_of-base.ensures.is) in
     let fine = subst (λ (z : ℤ). z ≤ℤ (pos 32 *ℤ h)) V l in
     record {
-      outcome = (c.if-partial.true, fine);
-      undetermined = fine_bordered u (laws_everywhere u (g.G.Grid.widest s) (g.G.Grid.lawful s)) c.args.negative n (pos 32 *ℤ h) fine;
+      outcome = (c.if-end.true, fine);
+      undetermined = fine_bordered u (laws_everywhere u (g.G.Grid.widest s) (g.G.Grid.lawful s)) c.args.end.negative n (pos 32 *ℤ h) fine;
       unused = refl;
     }
 
 pub returns : goal.returns
 returns g c =
-    let s = c.args.grid.now in
+    let s = c.args.rounding.grid.now in
     let u = g.G.Grid.spacing s in
     let L = g.G.Grid.lawful s in
-    let n = limbs_value c.args.whole.now in
-    let m = mode_of c.args.mode in
+    let n = limbs_value c.args.end.whole.now in
+    let m = mode_of c.args.rounding.mode in
     let w = c.exponent_of-base.result in
     let e = c.exponent_of-exponent.result in
     let v = c.spacing-unit.result in
     let x = c.spacing-next.result in
-    let h = c.args.column in
+    let h = c.args.end.column in
     let ef : SFits w32 e = search rules in
     let vf : SFits w32 v = search rules in
     let xf : SFits w32 x = search rules in
@@ -97,15 +100,15 @@ returns g c =
     let b : e ≡ (pos 32 *ℤ h) +ℤ pos (size n) = omega (arith, ints, c.exponent_of-exponent.ensures.is, c.bit_length-bits.ensures.is) in
     let y = c.round_at.ensures u (g.G.Grid.widest s) L (to_z-of_z w32 v vf ∙ V ∙ ap u (sym E)) (to_z-of_z w32 x xf ∙ X ∙ ap (λ (z : ℤ). u (z +ℤ pos 1)) (sym E)) in
     let r = c.round_at.result in
-    let a = subst (λ (z : ℤ). Right u m c.args.negative c.args.partial n z r (limbs_value c.round_at.new.answer)) B y in
-    let coarse : c.args.partial ≡ true → (pos 32 *ℤ h) <ℤ spacing_there u n (pos 32 *ℤ h) = λ p. elim c.else-partial.branch [
-      | else-partial-via-then-partial+else-unit-base k ↦
+    let a = subst (λ (z : ℤ). Right u m c.args.end.negative c.args.end.partial n z r (limbs_value c.round_at.new.answer)) B y in
+    let coarse : c.args.end.partial ≡ true → (pos 32 *ℤ h) <ℤ spacing_there u n (pos 32 *ℤ h) = λ p. elim c.else-end.branch [
+      | else-end-via-then-end+else-unit-base k ↦
           let l : (pos 32 *ℤ h) <ℤ v = omega (arith, ints, k.if-unit-base.false, c.exponent_of-base.ensures.is) in
           subst (λ (z : ℤ). (pos 32 *ℤ h) <ℤ z) (V ∙ ap u b) l
-      | else-partial-via-else-partial k ↦ absurd (both_ways c.args.partial k.if-partial.false p)
+      | else-end-via-else-end k ↦ absurd (both_ways c.args.end.partial k.if-end.false p)
     ] in
     record {
       outcome = (coarse, a);
-      undetermined = λ p. coarse_not_bordered u (laws_everywhere u (g.G.Grid.widest s) L) c.args.negative n (pos 32 *ℤ h) (coarse p);
-      unused = unused_limbs u m c.args.negative c.args.partial n (pos 32 *ℤ h) r.zero r.exponent r.precision _ c.round_at.new.answer (λ i l. (c.type_inv.answer i).fits) a.1;
+      undetermined = λ p. coarse_not_bordered u (laws_everywhere u (g.G.Grid.widest s) L) c.args.end.negative n (pos 32 *ℤ h) (coarse p);
+      unused = unused_limbs u m c.args.end.negative c.args.end.partial n (pos 32 *ℤ h) r.extent _ c.round_at.new.answer (λ i l. (c.type_inv.answer i).fits) a.1;
     }
