@@ -1,5 +1,5 @@
 -- The way down the columns of the listed terms.
-use Rattle.std.proofs.Common.{◌≡◌, ℕ, zero, suc, List, [], ◌∷◌, map, ℤ, pos, ◌≤ℤ◌, ◌<ℤ◌, refl, inl, inr, arith}
+use Rattle.std.proofs.Common.{◌≡◌, ℕ, zero, suc, List, [], ◌∷◌, ℤ, pos, ◌≤ℤ◌, ◌<ℤ◌, refl, inl, inr, arith}
 use borrow.Author.Differences.{ints}
 use Rattle.std.specs.List.{AllByRecursion, filter_map, reduce}
 use Rattle.batch.specs.Term.{Term, not_a_number, infinite, signed_zero, regular, top_weight, farthest_top, Limited, Batchable}

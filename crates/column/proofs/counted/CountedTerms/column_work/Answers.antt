@@ -1,13 +1,11 @@
 -- One term more, that goes on below or not; no sum overflows; at the end all terms are gathered.
-use Rattle.std.proofs.Common.{◌≡◌, ◌+◌, ◌≤◌, Bool, cond, false, get_or, refl, sym, ap, ◌∙◌, subst, arith, ℤ, w32, to_z, of_z}
+use Rattle.std.proofs.Common.{◌≡◌, ◌+◌, Bool, cond, false, get_or, refl, sym, ap, ◌∙◌, subst, arith, w32, to_z, of_z}
 use Rattle.std.proofs.lemmas.Int.{to_z-of_z}
-use Rattle.std.proofs.lemmas.List.{take_all}
 use Rattle.column.specs.declared.term.CountedTerm.{CountedTerm}
 use Rattle.column.specs.CountedTerms.{listed_parts}
-use Rattle.column.specs.Listed.{parts_listed}
 use Rattle.column.specs.Claims.{StartsWith, GoesOnWith}
 use Rattle.column.proofs.Laws.{sum_starts, sum_goes_on}
-use Rattle.column.proofs.Gathering.{Gathered, gathered_small, gathered_more, gathered_all, sum_fits}
+use Rattle.column.proofs.Gathering.{gathered_small, gathered_more, gathered_all, sum_fits}
 use Rattle.column.proofs.counted.CountedTerms.column_work.Goals as goal
 use Rattle.column.proofs.counted.CountedTerms.column_work.Goals.{then-reaches_below, else-reaches_below}
 
