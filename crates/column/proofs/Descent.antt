@@ -1,15 +1,16 @@
 -- The next occupied column below a given one, and the first of all.
-use Rattle.std.proofs.Common.{◌≡◌, ℕ, ◌+◌, ◌<◌, ◌≤◌, ◌⊎◌, List, [], ◌∷◌, length, get_or, drop, ℤ, pos, ◌-ℤ◌, ◌≤ℤ◌, ◌<ℤ◌, Some, None, Option, sym, refl, ap, ◌∙◌, subst, inl, inr, arith}
+use Rattle.std.proofs.Common.{◌≡◌, cond, ◌⊎◌, List, [], ◌∷◌, map, ℤ, pos, ◌-ℤ◌, ◌≤ℤ◌, ◌<ℤ◌, Some, None, Option, refl, ap, subst, inl, inr, arith}
 use lib.Signed.{lt_z}
 use borrow.Author.Differences.{ints}
 use Rattle.std.specs.Int.{int_max, int_min}
-use Rattle.std.specs.List.{AllByRecursion}
-use Rattle.std.proofs.lemmas.List.{drop_more, drop_all}
+use Rattle.std.specs.List.{AllByRecursion, filter_map, cons_option, fold, reduce}
+use Rattle.std.specs.Ordering.{int_cmp, max_by_ordering}
 use Rattle.std.proofs.lemmas.Int.{by_lt_z, clamps}
 use Rattle.std.proofs.lemmas.Bool.{cond_both}
+use Rattle.std.specs.declared.cmp.Ordering.TheVariants.{Less, Equal, Greater}
 use Rattle.column.specs.Parts.{Part}
 use Rattle.column.specs.Columns.{Spans, Occupies, Occupied, column_of, columns, Falling, Listed}
-use Rattle.column.specs.Walk.{first_column, first_below, Highest, higher}
+use Rattle.column.specs.Walk.{first_column, first_below, Highest, higher, highest_spanned}
 use Rattle.column.proofs.Listing.{floor_is, columns_fall, columns_occupied, occupied_columns}
 use Rattle.column.proofs.Chain.{in_below}
 
@@ -30,6 +31,12 @@ module _ (low top below : ℤ) where
       let f = floor_is low in
       let t = floor_is (top -ℤ pos 1) in
       ((omega (arith, ints, clamps), omega (arith, ints, clamps)), omega (arith, ints, clamps), λ k s l. omega (arith, ints, clamps))
+
+  pub spanned_is : Highest below (Spans low top) (highest_spanned low top below)
+  spanned_is =
+      cond_both (lt_z candidate (column_of low)) None (Some candidate) (Highest below (Spans low top))
+      (λ e. none_spanned (omega (arith, ints)))
+      (λ e. some_spanned candidate refl (omega (arith, ints)))
 
 -- ---- the highest of two sorts of columns
 module _ (b : ℤ) where
@@ -82,12 +89,59 @@ pub first_is : (b : ℤ) (cs : List ℤ) → AllByRecursion (λ c. c <ℤ b) cs 
 first_is b [] h = refl
 first_is b (c ∷ cs) h = cond_both (lt_z c b) (Some c) (first_below b cs) (λ (r : Option ℤ). r ≡ Some c) (λ e. refl) (λ e. absurd (omega (arith, ints, h.0)))
 
--- ---- part after part, from the last to the first
-module _ (b : ℤ) (ps : List Part) where
-  pub highest_none : (i : ℕ) → length ps ≤ i → Highest b (Occupied (drop i ps)) None
-  highest_none i h = λ k o l. subst (λ (qs : List Part). Occupied qs k) (drop_all i ps h) o
+-- ---- the greatest of the columns that some terms have, part after part
+-- the greater of two, as `max` picks it
+abbrev pub picked : ℤ → ℤ → ℤ
+picked p z = max_by_ordering (int_cmp p z) p z
 
-  pub highest_more : (i : ℕ) (p : Part) (r s : Option ℤ) → i < length ps → get_or ps i p ≡ p → Highest b (Occupies p) r → Highest b (Occupied (drop (i + 1) ps)) s → Highest b (Occupied (drop i ps)) (higher r s)
-  highest_more i p r s h e f g =
-      let d : drop i ps ≡ p ∷ drop (i + 1) ps = drop_more ps i p h ∙ ap (λ (q : Part). q ∷ drop (i + 1) ps) e in
-      subst (λ (qs : List Part). Highest b (Occupied qs) (higher r s)) (sym d) (highest_either b (Occupies p) (Occupied (drop (i + 1) ps)) r s f g)
+picked_is : (p z : ℤ) → int_max p z ≡ picked p z
+picked_is p z =
+    cond_both (lt_z p z) Less (cond (lt_z z p) Greater Equal) (λ o. int_max p z ≡ max_by_ordering o p z)
+    (λ e. omega (arith, ints, clamps))
+    (λ e. cond_both (lt_z z p) Greater Equal (λ o. int_max p z ≡ max_by_ordering o p z) (λ f. omega (arith, ints, clamps)) (λ f. omega (arith, ints, clamps)))
+
+regrouped : {A B C : Type 0} → (A ⊎ B) ⊎ C → A ⊎ (B ⊎ C)
+regrouped (inl (inl a)) = inl a
+regrouped (inl (inr b)) = inr (inl b)
+regrouped (inr c) = inr (inr c)
+
+ungrouped : {A B C : Type 0} → A ⊎ (B ⊎ C) → (A ⊎ B) ⊎ C
+ungrouped (inl a) = inl (inl a)
+ungrouped (inr (inl b)) = inl (inr b)
+ungrouped (inr (inr c)) = inr c
+
+swapped : {A B C : Type 0} → A ⊎ (B ⊎ C) → B ⊎ (A ⊎ C)
+swapped (inl a) = inr (inl a)
+swapped (inr (inl b)) = inl b
+swapped (inr (inr c)) = inr (inr c)
+
+module _ {X : Type 0} (b : ℤ) (part_at : X → Part) (h : X → Option ℤ) (each : (x : X) → Highest b (Occupies (part_at x)) (h x)) where
+  -- the greatest of a list of columns, from one on
+  abbrev from : ℤ → List X → Option ℤ
+  from a xs = Some (fold picked a (filter_map h xs))
+
+  abbrev Or : (ℤ → Type 0) → List X → ℤ → Type 0
+  Or P xs k = P k ⊎ Occupied (map part_at xs) k
+
+  greatest_more : (P : ℤ → Type 0) (a : ℤ) (x : X) (xs : List X) → Highest b P (Some a) → ((Q : ℤ → Type 0) (c : ℤ) → Highest b Q (Some c) → Highest b (Or Q xs) (from c xs))
+      → (r : Option ℤ) → Highest b (Occupies (part_at x)) r → Highest b (Or P (x ∷ xs)) (Some (fold picked a (cons_option r (filter_map h xs))))
+  greatest_more P a x xs m further None n =
+      highest_same b (λ k. Occupies (part_at x) k ⊎ Or P xs k) (Or P (x ∷ xs)) (from a xs) (λ k. swapped) (λ k. swapped)
+      (highest_either b (Occupies (part_at x)) (Or P xs) None (from a xs) n (further P a m))
+  greatest_more P a x xs m further (Some c) n =
+      let both = λ (k : ℤ). P k ⊎ Occupies (part_at x) k in
+      let two : Highest b both (Some (picked a c)) = subst (λ (z : ℤ). Highest b both (Some z)) (picked_is a c) (highest_either b P (Occupies (part_at x)) (Some a) (Some c) m n) in
+      highest_same b (Or both xs) (Or P (x ∷ xs)) (from (picked a c) xs) (λ k. regrouped) (λ k. ungrouped) (further both (picked a c) two)
+
+  greatest_from : (xs : List X) (P : ℤ → Type 0) (a : ℤ) → Highest b P (Some a) → Highest b (Or P xs) (from a xs)
+  greatest_from [] P a m = highest_same b P (λ k. P k ⊎ ⊥) (Some a) (λ k p. inl p) (λ k o. elim o [ inl p ↦ p | inr e ↦ absurd e ]) m
+  greatest_from (x ∷ xs) P a m = greatest_more P a x xs m (greatest_from xs) (h x) (each x)
+
+  greatest_first : (x : X) (xs : List X) → Highest b (Occupied (map part_at xs)) (reduce picked (filter_map h xs)) → (r : Option ℤ) → Highest b (Occupies (part_at x)) r
+      → Highest b (Or (Occupies (part_at x)) xs) (reduce picked (cons_option r (filter_map h xs)))
+  greatest_first x xs rest None n = highest_either b (Occupies (part_at x)) (Occupied (map part_at xs)) None (reduce picked (filter_map h xs)) n rest
+  greatest_first x xs rest (Some c) n = greatest_from xs (Occupies (part_at x)) c n
+
+  pub greatest_of_all : (xs : List X) → Highest b (Occupied (map part_at xs)) (reduce picked (filter_map h xs))
+  greatest_of_all [] = λ k o l. o
+  greatest_of_all (x ∷ xs) = greatest_first x xs (greatest_of_all xs) (h x) (each x)

@@ -6,10 +6,10 @@ use borrow.Author.Differences.{ints}
 use Rattle.exact.specs.Integers.{signed, gap}
 use Rattle.batch.specs.Term.{Term, not_a_number, infinite, signed_zero, regular, low_weight, top_weight, digit_at, column_weight}
 use Rattle.batch.specs.Lookup.{low_of_term, top_of_term, digit_of_term}
-use Rattle.column.specs.declared.counted.CountedTerm.{CountedTerm}
+use Rattle.column.specs.declared.term.CountedTerm.{CountedTerm}
 use Rattle.column.specs.Parts.{Part, part, low, top}
 use Rattle.column.specs.Columns.{digit}
-use Rattle.column.specs.CountedTerms.{signed_part, listed_part}
+use Rattle.column.specs.Listed.{signed_part, listed_part}
 
 -- ---- a part of 0
 zero_digit : (s : Bool) (k : ℤ) → digit (part s 0 (pos 0)) k ≡ 0

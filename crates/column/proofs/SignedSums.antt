@@ -1,5 +1,5 @@
 -- Sums over the parts, with their signs.
-use Rattle.std.proofs.Common.{◌≡◌, ℕ, ◌+◌, ◌*◌, ◌^◌, ◌≤◌, Bool, cond, List, [], ◌∷◌, length, pos, ◌+ℤ◌, neg_ℤ, ◌≤ℤ◌, sym, refl, ap, ◌∙◌, ap₂, arith}
+use Rattle.std.proofs.Common.{◌≡◌, ℕ, ◌+◌, ◌*◌, ◌^◌, ◌≤◌, Bool, cond, List, [], ◌∷◌, ◌++◌, length, pos, ◌+ℤ◌, neg_ℤ, ◌≤ℤ◌, sym, refl, ap, ◌∙◌, ap₂, arith}
 use borrow.Author.Differences.{ints}
 use Rattle.std.specs.List.{AllByRecursion}
 use Rattle.exact.specs.Integers.{signed, scale}
@@ -35,6 +35,15 @@ sum_within f t b (p ∷ ps) (l, h) =
 pub tally_le : (t : Part → Bool) (ps : List Part) → tally t ps ≤ length ps
 tally_le t [] = omega arith
 tally_le t (p ∷ ps) = let i = tally_le t ps in let b : cond (t p) 1 0 ≤ 1 = grind arith in omega arith
+
+-- one part more, at the end
+pub sum_push : (f : Part → ℕ) (ps : List Part) (p : Part) → signed_sum f (ps ++ p ∷ []) ≡ signed_sum f ps +ℤ signed p.negative (f p)
+sum_push f [] p = omega (arith, ints)
+sum_push f (q ∷ ps) p = let i = sum_push f ps p in omega (arith, ints)
+
+pub tally_push : (t : Part → Bool) (ps : List Part) (p : Part) → tally t (ps ++ p ∷ []) ≡ tally t ps + cond (t p) 1 0
+tally_push t [] p = omega arith
+tally_push t (q ∷ ps) p = let i = tally_push t ps p in omega arith
 
 pub all_of : {P : Part → Type 0} → ((p : Part) → P p) → (ps : List Part) → AllByRecursion P ps
 all_of f [] = tt

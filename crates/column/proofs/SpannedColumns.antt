@@ -1,13 +1,14 @@
 -- The columns that a term's weights lie in, computed in 64 bits from weights of 32 bits.
-use Rattle.std.proofs.Common.{◌≡◌, true, false, ℤ, pos, ◌-ℤ◌, Some, None, ap, ◌∙◌, ap₂, arith, w32, w64, SFits, to_z, of_z}
+use Rattle.std.proofs.Common.{◌≡◌, true, false, ℤ, pos, ◌-ℤ◌, Some, None, refl, ap, ◌∙◌, ap₂, arith, w32, w64, SFits, to_z, of_z}
 use lib.Signed.{lt_z, shr_z}
 use borrow.Author.Differences.{ints}
 use Rattle.std.specs.Int.{int_min}
 use Rattle.std.proofs.lemmas.Int.{clamps}
-use Rattle.column.specs.Columns.{column_of, Spans}
-use Rattle.column.specs.Walk.{Highest}
+use Rattle.std.proofs.lemmas.Bool.{cond_both}
+use Rattle.column.specs.Columns.{column_of}
+use Rattle.column.specs.Walk.{highest_spanned}
 use Rattle.column.proofs.Listing.{floor_is}
-use Rattle.column.proofs.Descent.{candidate, none_spanned, some_spanned}
+use Rattle.column.proofs.Descent.{candidate}
 
 -- a number as 64 bits keep it, and as 32 bits do
 abbrev pub kept64 : ℤ → ℤ
@@ -33,13 +34,13 @@ module _ (low top below : ℤ) (Fits-low : SFits w32 low) (fits-top : SFits w32 
         let g : kept64 (kept64 b -ℤ pos 1) ≡ below -ℤ pos 1 = omega (arith, ints) in
         r-is ∙ ap₂ int_min h g
 
-    pub spans_none : lt_z (kept64 r) (kept64 (shr_z (kept64 l) 32)) ≡ true → Highest below (Spans low top) None
+    pub spans_none : lt_z (kept64 r) (kept64 (shr_z (kept64 l) 32)) ≡ true → None ≡ highest_spanned low top below
     spans_none h =
         let e = lowest_is in
         let f = highest_is in
         let g = floor_is (top -ℤ pos 1) in
         let k = floor_is low in
-        none_spanned low top below (omega (arith, ints, clamps))
+        cond_both (lt_z (candidate low top below) (column_of low)) None (Some (candidate low top below)) (λ o. None ≡ o) (λ y. refl) (λ n. absurd (omega (arith, ints, clamps)))
 
     pub highest_fits : lt_z (kept64 r) (kept64 (shr_z (kept64 l) 32)) ≡ false → SFits w32 (kept64 r)
     highest_fits h =
@@ -49,11 +50,11 @@ module _ (low top below : ℤ) (Fits-low : SFits w32 low) (fits-top : SFits w32 
         let k = floor_is low in
         omega (arith, ints, clamps)
 
-    pub spans_some : lt_z (kept64 r) (kept64 (shr_z (kept64 l) 32)) ≡ false → Highest below (Spans low top) (Some (kept32 (kept64 r)))
+    pub spans_some : lt_z (kept64 r) (kept64 (shr_z (kept64 l) 32)) ≡ false → Some (kept32 (kept64 r)) ≡ highest_spanned low top below
     spans_some h =
         let e = lowest_is in
         let f = highest_is in
         let g = floor_is (top -ℤ pos 1) in
         let k = floor_is low in
         let c : kept32 (kept64 r) ≡ candidate low top below = omega (arith, ints, clamps) in
-        some_spanned low top below (kept32 (kept64 r)) c (omega (arith, ints, clamps))
+        cond_both (lt_z (candidate low top below) (column_of low)) None (Some (candidate low top below)) (λ o. Some (kept32 (kept64 r)) ≡ o) (λ y. absurd (omega (arith, ints, clamps))) (λ n. ap Some c)

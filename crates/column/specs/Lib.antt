@@ -6,5 +6,5 @@ pub mod Depth
 pub mod Walk
 pub mod Claims
 pub mod Examples
+pub mod Listed
 pub mod CountedTerms
-pub mod Gathering

@@ -2,6 +2,7 @@
 #![tactic(auto)]
 
 mod counted;
+mod term;
 mod theory;
 
 pub use counted::CountedTerms;

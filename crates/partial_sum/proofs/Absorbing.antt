@@ -1,5 +1,5 @@
 -- What a partial sum holds after each step of absorbing a column, and that it keeps its limits.
-use Rattle.std.proofs.Common.{◌≡◌, ℕ, ◌+◌, ◌-◌, ◌*◌, ◌^◌, ◌<◌, ◌≤◌, ◌≢◌, List, length, get_or, drop, set, replicate, ℤ, pos, ◌+ℤ◌, nat_abs, ◌<ℤ◌, sym, refl, ap, ◌∙◌, subst, ⊎_elim, arith, get_or-set_other, get_or-set_same}
+use Rattle.std.proofs.Common.{◌≡◌, ℕ, ◌+◌, ◌-◌, ◌*◌, ◌^◌, ◌<◌, ◌≤◌, ◌≢◌, List, length, get_or, drop, set, replicate, ℤ, pos, ◌+ℤ◌, nat_abs, ◌-ℤ◌, ◌≤ℤ◌, ◌<ℤ◌, sym, refl, ap, ◌∙◌, subst, ⊎_elim, arith, length-set, get_or-set_other, get_or-set_same}
 use borrow.Author.Differences.{ints}
 use Rattle.std.proofs.lemmas.List.{drop_more, drop_all, get_or-replicate}
 use Rattle.std.proofs.lemmas.Int.{by_lt_z}
@@ -7,16 +7,48 @@ use Rattle.std.proofs.lemmas.Bool.{cases_lt, cases_eq}
 use Rattle.exact.specs.Integers.{scale}
 use Rattle.exact.proofs.Scaling.{scale_none, scale_scale, scale_plus, zero_scale}
 use Rattle.totals.specs.Totals.{totals_value}
-use Rattle.partial_sum.specs.Holding.{drop_between, slot, head, window, held, most_total, TotalsWithin, Shaped, Sound, Uncarried, Absorbs, Folds, Appends, Extended, Absorbed}
+use Rattle.partial_sum.specs.Limits.{Fields, drop_between, slot_of, head_of, window_of, held_of, most_total, TotalsWithin, Shaped, Sound}
+use Rattle.partial_sum.specs.Holding.{fields, slot, head, window, held, Absorbs, Folds, Appends, Lowers}
 use Rattle.partial_sum.specs.declared.sum.PartialSum.{PartialSum}
 use Rattle.partial_sum.proofs.Windows.{value_below, value_changed, value_zeros}
 
+-- the limits before the carry out of a rest right below the window
+record Uncarried (p : Fields) : Type 0 where
+  shaped : Shaped p
+  near_totals : p.lowest ≤ℤ (p.column +ℤ pos 1) → TotalsWithin most_total p
+  all_totals : TotalsWithin (2 ^ 42 + 2 ^ 11) p
+
+-- q holds what p does, and the total t of the column d
+pub record Took (p : PartialSum) (q : Fields) (t d : ℤ) : Type 0 where
+  pub value : held_of q ≡ scale (held p) (drop_between p.column d) +ℤ t
+  pub at : q.column ≡ d
+  pub no_higher : q.lowest ≤ℤ p.lowest
+
+-- the window of q reaches further down, to the column d or as far as there is room
+record Extended (p : PartialSum) (q : Fields) (d : ℤ) : Type 0 where
+  totals : q.totals ≡ p.totals
+  column : q.column ≡ p.column
+  rest : q.rest ≡ p.rest
+  from : q.from ≤ p.from
+  lowest : q.lowest +ℤ pos (p.from - q.from) ≡ p.lowest
+  reach : d ≤ℤ q.lowest
+  full : d <ℤ q.lowest → q.from ≡ 0
+
+abbrev lowered : PartialSum → ℕ → Fields
+lowered p k = record { totals = p.totals; from = p.from - k; lowest = p.lowest -ℤ pos k; column = p.column; rest = p.rest }
+
+extended : (p : PartialSum) (k : ℕ) (d : ℤ) → Lowers p k d → Extended p (lowered p k) d
+extended p k d l =
+    let room = l.room in
+    let full = l.full in
+    record { totals = refl; column = refl; rest = refl; from = omega arith; lowest = omega (arith, ints); reach = l.reach; full = λ above. (let e = full above in omega arith) }
+
 -- ---- slots
 -- a slot of a written window
-slot_written : (q : PartialSum) (ts : List ℤ) (i : ℕ) (v : ℤ) → q.totals ≡ set ts i v → i < length ts → slot q i ≡ v
+slot_written : (q : Fields) (ts : List ℤ) (i : ℕ) (v : ℤ) → q.totals ≡ set ts i v → i < length ts → slot_of q i ≡ v
 slot_written q ts i v e inside = ap (λ (l : List ℤ). get_or l i (pos 0)) e ∙ get_or-set_same ts i v (pos 0) inside
 
-slot_kept : (q : PartialSum) (ts : List ℤ) (i k : ℕ) (v : ℤ) → q.totals ≡ set ts i v → k ≢ i → slot q k ≡ get_or ts k (pos 0)
+slot_kept : (q : Fields) (ts : List ℤ) (i k : ℕ) (v : ℤ) → q.totals ≡ set ts i v → k ≢ i → slot_of q k ≡ get_or ts k (pos 0)
 slot_kept q ts i k v e other = ap (λ (l : List ℤ). get_or l k (pos 0)) e ∙ get_or-set_other ts i k v (pos 0) other
 
 -- ---- a window of the head alone
@@ -27,28 +59,30 @@ head_alone ts long =
     omega (arith, ints)
 
 -- an open partial sum is its window
-pub held_open : (p : PartialSum) → p.lowest ≡ p.column → p.rest ≡ pos 0 → held p ≡ window p
+pub held_open : (p : Fields) → p.lowest ≡ p.column → p.rest ≡ pos 0 → held_of p ≡ window_of p
 held_open p at none =
     let e : drop_between p.lowest p.column ≡ 0 = omega (arith, ints) in
-    let w : scale (window p) (drop_between p.lowest p.column) ≡ window p = ap (scale (window p)) e ∙ scale_none (window p) in
+    let w : scale (window_of p) (drop_between p.lowest p.column) ≡ window_of p = ap (scale (window_of p)) e ∙ scale_none (window_of p) in
     omega (arith, ints)
 
-held_alone : (p : PartialSum) → p.lowest ≡ p.column → p.rest ≡ pos 0 → p.from ≡ 129 → held p ≡ head p
-held_alone p at none alone = held_open p at none ∙ ap (λ (i : ℕ). totals_value (drop i p.totals)) alone ∙ head_alone p.totals p.whole
+held_alone : (p : Fields) → length p.totals ≡ 130 → p.lowest ≡ p.column → p.rest ≡ pos 0 → p.from ≡ 129 → held_of p ≡ head_of p
+held_alone p whole at none alone = held_open p at none ∙ ap (λ (i : ℕ). totals_value (drop i p.totals)) alone ∙ head_alone p.totals whole
 
 -- where some slot is free the partial sum is open
-open_where_room : (p : PartialSum) → Shaped p → 0 < p.from → p.column ≡ p.lowest
-open_where_room p s room =
+open_where_room : (p : PartialSum) → 0 < p.from → p.column ≡ p.lowest
+open_where_room p room =
+    let s : Shaped (fields p) = p.sound.shaped in
     let o = s.order in
     by_lt_z p.column p.lowest (λ l. absurd (let z = s.closed_full l in let n : ⊥ = omega arith in n)) (λ l. omega (arith, ints))
 
 -- ---- one column
-pub started : (p : PartialSum) (t : ℤ) → nat_abs t ≤ most_total → p.totals ≡ set (replicate 130 (pos 0)) 129 t → p.from ≡ 129 → p.lowest ≡ p.column → p.rest ≡ pos 0 → (held p ≡ t) × Sound p
+pub started : (p : Fields) (t : ℤ) → nat_abs t ≤ most_total → p.totals ≡ set (replicate 130 (pos 0)) 129 t → p.from ≡ 129 → p.lowest ≡ p.column → p.rest ≡ pos 0 → (held_of p ≡ t) × Sound p
 started p t small e alone at none =
-    let last : slot p 129 ≡ t = slot_written p (replicate 130 (pos 0)) 129 t e (omega arith) in
-    let zeros : (k : ℕ) → k < 129 → slot p k ≡ pos 0 = λ k l. slot_kept p (replicate 130 (pos 0)) 129 k t e (omega arith) ∙ get_or-replicate 130 k (pos 0) (pos 0) (omega arith) in
+    let long : length p.totals ≡ 130 = ap length e ∙ length-set (replicate 130 (pos 0)) 129 t in
+    let last : slot_of p 129 ≡ t = slot_written p (replicate 130 (pos 0)) 129 t e (omega arith) in
+    let zeros : (k : ℕ) → k < 129 → slot_of p k ≡ pos 0 = λ k l. slot_kept p (replicate 130 (pos 0)) 129 k t e (omega arith) ∙ get_or-replicate 130 k (pos 0) (pos 0) (omega arith) in
     let within : (b : ℕ) → TotalsWithin b p = λ b k l. (let z = zeros k l in omega (arith, ints)) in (
-      held_alone p at none alone ∙ last,
+      held_alone p long at none alone ∙ last,
       record {
         shaped = record {
           order = omega (arith, ints);
@@ -67,26 +101,27 @@ started p t small e alone at none =
     )
 
 -- ---- a column into the head
-pub folded : (p q : PartialSum) (t d : ℤ) → Absorbs p t d → Folds p d → q.totals ≡ set p.totals 129 (scale (head p) 32 +ℤ t) → q.from ≡ p.from → q.lowest ≡ d → q.column ≡ d → q.rest ≡ p.rest
-    → Absorbed p q t d × Uncarried q
+pub folded : (p : PartialSum) (q : Fields) (t d : ℤ) → Absorbs p t d → Folds p d → q.totals ≡ set p.totals 129 (scale (head p) 32 +ℤ t) → q.from ≡ p.from → q.lowest ≡ d → q.column ≡ d → q.rest ≡ p.rest
+    → Took p q t d × Sound q
 folded p q t d a f e from lowest column rest =
-    let s = a.sound.shaped in
+    let s : Shaped (fields p) = p.sound.shaped in
     let alone = f.alone in
     let small = f.small in
     let total = a.total in
     let whole = p.whole in
     let further = a.further in
-    let at : p.column ≡ p.lowest = open_where_room p s (omega arith) in
+    let at : p.column ≡ p.lowest = open_where_room p (omega arith) in
     let none : p.rest ≡ pos 0 = s.open_rest at in
-    let before : held p ≡ head p = held_alone p (sym at) none alone in
+    let before : held p ≡ head p = held_alone (fields p) p.whole (sym at) none alone in
     let v = scale (head p) 32 +ℤ t in
-    let last : slot q 129 ≡ v = slot_written q p.totals 129 v e (omega arith) in
-    let after : held q ≡ v = held_alone q (lowest ∙ sym column) (rest ∙ none) (from ∙ alone) ∙ last in
+    let last : slot_of q 129 ≡ v = slot_written q p.totals 129 v e (omega arith) in
+    let long : length q.totals ≡ 130 = ap length e ∙ length-set p.totals 129 v ∙ whole in
+    let after : held_of q ≡ v = held_alone q long (lowest ∙ sym column) (rest ∙ none) (from ∙ alone) ∙ last in
     let moved : scale (held p) (drop_between p.column d) ≡ scale (head p) 32 = ap (λ (z : ℤ). scale z (drop_between p.column d)) before ∙ ⊎_elim
     (λ (next : p.column ≡ d +ℤ pos 1). ap (scale (head p)) (let g : drop_between p.column d ≡ 32 = omega (arith, ints) in g))
     (λ (nothing : head p ≡ pos 0). ap (λ (z : ℤ). scale z (drop_between p.column d)) nothing ∙ zero_scale (drop_between p.column d) ∙ sym (zero_scale 32) ∙ ap (λ (z : ℤ). scale z 32) (sym nothing))
     f.next in
-    let zeros : (k : ℕ) → k < 129 → slot q k ≡ pos 0 = λ k l. slot_kept q p.totals 129 k v e (omega arith) ∙ s.unused k (omega arith) in
+    let zeros : (k : ℕ) → k < 129 → slot_of q k ≡ pos 0 = λ k l. slot_kept q p.totals 129 k v e (omega arith) ∙ s.unused k (omega arith) in
     let within : (b : ℕ) → TotalsWithin b q = λ b k l. (let z = zeros k l in omega (arith, ints)) in (
       record { value = after ∙ ap (λ (z : ℤ). z +ℤ t) (sym moved); at = column; no_higher = omega (arith, ints) },
       record {
@@ -100,15 +135,17 @@ folded p q t d a f e from lowest column rest =
           head_large = λ l. absurd (omega arith);
           rest_small = omega (arith, ints);
         };
-        near_totals = λ _. within most_total;
+        open_totals = λ _. within most_total;
         all_totals = within (2 ^ 42 + 2 ^ 11);
+        near_rest = λ l. absurd (omega (arith, ints));
       },
     )
 
 -- ---- a column below the head
 -- the window's number after it reaches further down
-extended_window : (p q : PartialSum) (d : ℤ) → Shaped p → Extended p q d → window q ≡ scale (window p) (32 * (p.from - q.from))
-extended_window p q d s x =
+extended_window : (p : PartialSum) (q : Fields) (d : ℤ) → Extended p q d → window_of q ≡ scale (window p) (32 * (p.from - q.from))
+extended_window p q d x =
+    let s : Shaped (fields p) = p.sound.shaped in
     let from = x.from in
     let back : q.from + (p.from - q.from) ≡ p.from = omega arith in
     let inside : q.from + (p.from - q.from) ≤ length p.totals = omega (arith, p.whole, p.used) in
@@ -117,14 +154,14 @@ extended_window p q d s x =
     ∙ ap (λ (i : ℕ). scale (totals_value (drop i p.totals)) (32 * (p.from - q.from))) back
 
 -- the head stays what it was, and it was not 0
-head_stays : (p : PartialSum) (d : ℤ) → Shaped p → Appends p d → 0 < nat_abs (head p)
-head_stays p d s a = ⊎_elim s.head_some (λ l. a.some (omega (arith, p.used))) (cases_lt p.from 129)
+head_stays : (p : PartialSum) (d : ℤ) → Appends p d → 0 < nat_abs (head p)
+head_stays p d a = ⊎_elim p.sound.shaped.head_some (λ l. a.some (omega (arith, p.used))) (cases_lt p.from 129)
 
--- where the window reaches d
-pub appended : (p q r : PartialSum) (t d : ℤ) → Absorbs p t d → Appends p d → Extended p q d → q.lowest ≡ d → r.totals ≡ set q.totals q.from t → r.from ≡ q.from → r.lowest ≡ q.lowest → r.column ≡ d → r.rest ≡ q.rest
-    → Absorbed p r t d × Uncarried r
+-- where the window_of reaches d
+appended : (p : PartialSum) (q r : Fields) (t d : ℤ) → Absorbs p t d → Appends p d → Extended p q d → q.lowest ≡ d → r.totals ≡ set q.totals q.from t → r.from ≡ q.from → r.lowest ≡ q.lowest → r.column ≡ d → r.rest ≡ q.rest
+    → Took p r t d × Uncarried r
 appended p q r t d a o x reached e from lowest column rest =
-    let s = a.sound.shaped in
+    let s : Shaped (fields p) = p.sound.shaped in
     let total = a.total in
     let further = a.further in
     let order = s.order in
@@ -132,26 +169,26 @@ appended p q r t d a o x reached e from lowest column rest =
     let less = x.from in
     let used = p.used in
     let room : q.from < p.from = omega (arith, ints) in
-    let at : p.column ≡ p.lowest = open_where_room p s (omega arith) in
+    let at : p.column ≡ p.lowest = open_where_room p (omega arith) in
     let none : p.rest ≡ pos 0 = s.open_rest at in
     let E : r.totals ≡ set p.totals q.from t = e ∙ ap (λ (l : List ℤ). set l q.from t) x.totals in
     let inside : q.from < length p.totals = omega (arith, p.whole) in
     let here : get_or p.totals q.from (pos 0) ≡ pos 0 = s.unused q.from room in
     let steps : drop_between p.column d ≡ 32 * (p.from - q.from) = omega (arith, ints) in
-    let wide : window r ≡ window q +ℤ t =
+    let wide : window_of r ≡ window_of q +ℤ t =
     ap (λ (i : ℕ). totals_value (drop i r.totals)) from
     ∙ ap (λ (l : List ℤ). totals_value (drop q.from l)) E
     ∙ value_changed p.totals q.from t t inside (omega (arith, ints))
     ∙ ap (λ (l : List ℤ). totals_value (drop q.from l) +ℤ t) (sym x.totals) in
-    let before : scale (held p) (drop_between p.column d) ≡ window q =
-    ap (λ (z : ℤ). scale z (drop_between p.column d)) (held_open p (sym at) none) ∙ ap (scale (window p)) steps ∙ sym (extended_window p q d s x) in
-    let written : slot r q.from ≡ t = slot_written r p.totals q.from t E inside in
-    let kept : (k : ℕ) → k ≢ q.from → slot r k ≡ slot p k = λ k ne. slot_kept r p.totals q.from k t E ne in
-    let top : slot r 129 ≡ slot p 129 = kept 129 (omega arith) in
-    let some = head_stays p d s o in
+    let before : scale (held p) (drop_between p.column d) ≡ window_of q =
+    ap (λ (z : ℤ). scale z (drop_between p.column d)) (held_open (fields p) (sym at) none) ∙ ap (scale (window p)) steps ∙ sym (extended_window p q d x) in
+    let written : slot_of r q.from ≡ t = slot_written r p.totals q.from t E inside in
+    let kept : (k : ℕ) → k ≢ q.from → slot_of r k ≡ slot p k = λ k ne. slot_kept r p.totals q.from k t E ne in
+    let top : slot_of r 129 ≡ slot p 129 = kept 129 (omega arith) in
+    let some = head_stays p d o in
     let within : (b : ℕ) → most_total ≤ b → TotalsWithin b r = λ b le k l. ⊎_elim
-    (λ (same : k ≡ q.from). (let w : slot r k ≡ t = ap (slot r) same ∙ written in omega (arith, ints)))
-    (λ ne. (let w = kept k ne in let old = a.sound.open_totals at k l in omega (arith, ints)))
+    (λ (same : k ≡ q.from). (let w : slot_of r k ≡ t = ap (slot_of r) same ∙ written in omega (arith, ints)))
+    (λ ne. (let w = kept k ne in let old = p.sound.open_totals at k l in omega (arith, ints)))
     (cases_eq k q.from) in (
       record { value = held_open r (lowest ∙ reached ∙ sym column) (rest ∙ x.rest ∙ none) ∙ wide ∙ ap (λ (z : ℤ). z +ℤ t) (sym before); at = column; no_higher = omega (arith, ints) },
       record {
@@ -176,10 +213,10 @@ appended p q r t d a o x reached e from lowest column rest =
     )
 
 -- where the room ends above d
-pub rested : (p q r : PartialSum) (t d : ℤ) → Absorbs p t d → Appends p d → Extended p q d → d <ℤ q.lowest → r.totals ≡ q.totals → r.from ≡ q.from → r.lowest ≡ q.lowest → r.column ≡ d → r.rest ≡ scale q.rest 32 +ℤ t
-    → Absorbed p r t d × Uncarried r
+rested : (p : PartialSum) (q r : Fields) (t d : ℤ) → Absorbs p t d → Appends p d → Extended p q d → d <ℤ q.lowest → r.totals ≡ q.totals → r.from ≡ q.from → r.lowest ≡ q.lowest → r.column ≡ d → r.rest ≡ scale q.rest 32 +ℤ t
+    → Took p r t d × Uncarried r
 rested p q r t d a o x above e from lowest column rest =
-    let s = a.sound.shaped in
+    let s : Shaped (fields p) = p.sound.shaped in
     let total = a.total in
     let further = a.further in
     let few = a.rest_few in
@@ -189,13 +226,13 @@ rested p q r t d a o x above e from lowest column rest =
     let used = p.used in
     let bottom : q.from ≡ 0 = x.full above in
     let E : r.totals ≡ p.totals = e ∙ x.totals in
-    let same : (k : ℕ) → slot r k ≡ slot p k = λ k. ap (λ (l : List ℤ). get_or l k (pos 0)) E in
+    let same : (k : ℕ) → slot_of r k ≡ slot p k = λ k. ap (λ (l : List ℤ). get_or l k (pos 0)) E in
     let A = window p in
     let g = drop_between p.column d in
-    let wide : window r ≡ scale A (32 * (p.from - q.from)) =
-    ap (λ (i : ℕ). totals_value (drop i r.totals)) from ∙ ap (λ (l : List ℤ). totals_value (drop q.from l)) e ∙ extended_window p q d s x in
+    let wide : window_of r ≡ scale A (32 * (p.from - q.from)) =
+    ap (λ (i : ℕ). totals_value (drop i r.totals)) from ∙ ap (λ (l : List ℤ). totals_value (drop q.from l)) e ∙ extended_window p q d x in
     let deep : 32 * (p.from - q.from) + drop_between r.lowest r.column ≡ drop_between p.lowest p.column + g = omega (arith, ints) in
-    let high : scale (window r) (drop_between r.lowest r.column) ≡ scale (scale A (drop_between p.lowest p.column)) g =
+    let high : scale (window_of r) (drop_between r.lowest r.column) ≡ scale (scale A (drop_between p.lowest p.column)) g =
     ap (λ (z : ℤ). scale z (drop_between r.lowest r.column)) wide ∙ scale_scale A (32 * (p.from - q.from)) (drop_between r.lowest r.column)
     ∙ ap (scale A) deep ∙ sym (scale_scale A (drop_between p.lowest p.column) g) in
     let low : scale p.rest g ≡ scale p.rest 32 =
@@ -204,8 +241,8 @@ rested p q r t d a o x above e from lowest column rest =
     (λ near. ap (scale p.rest) (let i : g ≡ 32 = omega (arith, ints) in i)) in
     let R : r.rest ≡ scale p.rest 32 +ℤ t = rest ∙ ap (λ (z : ℤ). scale z 32 +ℤ t) x.rest in
     let all : scale (held p) g ≡ scale (scale A (drop_between p.lowest p.column)) g +ℤ scale p.rest g = scale_plus (scale A (drop_between p.lowest p.column)) p.rest g in
-    let some = head_stays p d s o in
-    let old = a.sound.all_totals in (
+    let some = head_stays p d o in
+    let old = p.sound.all_totals in (
       record { value = (let m : (x y z w : ℤ) → x ≡ y → w ≡ z +ℤ t → x +ℤ w ≡ (y +ℤ z) +ℤ t = λ x y z w i j. omega (arith, ints) in m _ _ _ _ high (R ∙ ap (λ (z : ℤ). z +ℤ t) (sym low)) ∙ ap (λ (z : ℤ). z +ℤ t) (sym all)); at = column; no_higher = omega (arith, ints) },
       record {
         shaped = record {
@@ -221,14 +258,14 @@ rested p q r t d a o x above e from lowest column rest =
           rest_small = omega (arith, ints);
         };
         near_totals = λ near k l. (let at : p.column ≡ p.lowest = by_lt_z p.column p.lowest (λ i. absurd (let z = s.closed_full i in let n : ⊥ = omega (arith, ints) in n)) (λ i. omega (arith, ints)) in
-            subst (λ (z : ℤ). nat_abs z ≤ most_total) (sym (same k)) (a.sound.open_totals at k l));
+            subst (λ (z : ℤ). nat_abs z ≤ most_total) (sym (same k)) (p.sound.open_totals at k l));
         all_totals = λ k l. subst (λ (z : ℤ). nat_abs z ≤ 2 ^ 42 + 2 ^ 11) (sym (same k)) (old k l);
       },
     )
 
 -- ---- the carry
 -- where none is due
-pub uncarried : (p : PartialSum) → Uncarried p → (p.column +ℤ pos 1 ≡ p.lowest → ⊥) → Sound p
+uncarried : (p : Fields) → Uncarried p → (p.column +ℤ pos 1 ≡ p.lowest → ⊥) → Sound p
 uncarried p u far = record {
   shaped = u.shaped;
   open_totals = λ at. u.near_totals (omega (arith, ints));
@@ -237,27 +274,27 @@ uncarried p u far = record {
 }
 
 -- k goes from the rest into the lowest total
-pub carried : (p q : PartialSum) (k : ℤ) → Uncarried p → p.column +ℤ pos 1 ≡ p.lowest → nat_abs k ≤ 2 ^ 11 → nat_abs q.rest ≤ 2 ^ 31 → q.rest +ℤ scale k 32 ≡ p.rest
-    → q.totals ≡ set p.totals 0 (slot p 0 +ℤ k) → q.from ≡ p.from → q.lowest ≡ p.lowest → q.column ≡ p.column
-    → (held q ≡ held p) × Sound q
-carried p q k u near few little rest e from lowest column =
+carried : (p q : Fields) (k : ℤ) → length p.totals ≡ 130 → Uncarried p → p.column +ℤ pos 1 ≡ p.lowest → nat_abs k ≤ 2 ^ 11 → nat_abs q.rest ≤ 2 ^ 31 → q.rest +ℤ scale k 32 ≡ p.rest
+    → q.totals ≡ set p.totals 0 (slot_of p 0 +ℤ k) → q.from ≡ p.from → q.lowest ≡ p.lowest → q.column ≡ p.column
+    → (held_of q ≡ held_of p) × Sound q
+carried p q k whole u near few little rest e from lowest column =
     let s = u.shaped in
     let order = s.order in
     let bottom : p.from ≡ 0 = s.closed_full (omega (arith, ints)) in
-    let inside : 0 < length p.totals = omega (arith, p.whole) in
-    let v = slot p 0 +ℤ k in
-    let written : slot q 0 ≡ v = slot_written q p.totals 0 v e inside in
-    let kept : (j : ℕ) → j ≢ 0 → slot q j ≡ slot p j = λ j ne. slot_kept q p.totals 0 j v e ne in
-    let top : slot q 129 ≡ slot p 129 = kept 129 (omega arith) in
+    let inside : 0 < length p.totals = omega (arith, whole) in
+    let v = slot_of p 0 +ℤ k in
+    let written : slot_of q 0 ≡ v = slot_written q p.totals 0 v e inside in
+    let kept : (j : ℕ) → j ≢ 0 → slot_of q j ≡ slot_of p j = λ j ne. slot_kept q p.totals 0 j v e ne in
+    let top : slot_of q 129 ≡ slot_of p 129 = kept 129 (omega arith) in
     let close : TotalsWithin most_total p = u.near_totals (omega (arith, ints)) in
-    let wide : window q ≡ window p +ℤ k =
+    let wide : window_of q ≡ window_of p +ℤ k =
     ap (λ (i : ℕ). totals_value (drop i q.totals)) (from ∙ bottom) ∙ ap (λ (l : List ℤ). totals_value (drop 0 l)) e
     ∙ value_changed p.totals 0 k v inside refl
     ∙ ap (λ (i : ℕ). totals_value (drop i p.totals) +ℤ k) (sym bottom) in
     let g : drop_between q.lowest q.column ≡ 32 = omega (arith, ints) in
     let h : drop_between p.lowest p.column ≡ 32 = omega (arith, ints) in
-    let high : scale (window q) (drop_between q.lowest q.column) ≡ scale (window p) (drop_between p.lowest p.column) +ℤ scale k 32 =
-    ap (scale (window q)) g ∙ ap (λ (z : ℤ). scale z 32) wide ∙ scale_plus (window p) k 32 ∙ ap (λ (i : ℕ). scale (window p) i +ℤ scale k 32) (sym h) in (
+    let high : scale (window_of q) (drop_between q.lowest q.column) ≡ scale (window_of p) (drop_between p.lowest p.column) +ℤ scale k 32 =
+    ap (scale (window_of q)) g ∙ ap (λ (z : ℤ). scale z 32) wide ∙ scale_plus (window_of p) k 32 ∙ ap (λ (i : ℕ). scale (window_of p) i +ℤ scale k 32) (sym h) in (
       (let m : (x y z a b : ℤ) → x ≡ y +ℤ z → a +ℤ z ≡ b → x +ℤ a ≡ y +ℤ b = λ x y z a b i j. omega (arith, ints) in m _ _ _ _ _ high rest),
       record {
         shaped = record {
@@ -272,9 +309,38 @@ carried p q k u near few little rest e from lowest column =
         };
         open_totals = λ l. absurd (omega (arith, ints));
         all_totals = λ j l. ⊎_elim
-            (λ (same : j ≡ 0). (let w : slot q j ≡ v = ap (slot q) same ∙ written in let old = close 0 (omega arith) in omega (arith, ints)))
+            (λ (same : j ≡ 0). (let w : slot_of q j ≡ v = ap (slot_of q) same ∙ written in let old = close 0 (omega arith) in omega (arith, ints)))
             (λ ne. subst (λ (z : ℤ). nat_abs z ≤ 2 ^ 42 + 2 ^ 11) (sym (kept j ne)) (u.all_totals j l))
             (cases_eq j 0);
         near_rest = λ _. little;
       },
     )
+
+-- ---- a column below the head, as its fields are written
+module _ (p : PartialSum) (k : ℕ) (t d low column : ℤ) (a : Absorbs p t d) (o : Appends p d) (l : Lowers p k d) (lowest : low ≡ p.lowest -ℤ pos k) (at : column ≡ d) where
+  -- into a window that reaches it
+  pub into_window : (v : ℤ) → low ≡ d → v ≡ t
+      → let q : Fields = record { totals = set p.totals (p.from - k) v; from = p.from - k; lowest = low; column = column; rest = p.rest } in Took p q t d × Sound q
+  into_window v reached same =
+      let q : Fields = record { totals = set p.totals (p.from - k) v; from = p.from - k; lowest = low; column = column; rest = p.rest } in
+      let both = appended p (lowered p k) q t d a o (extended p k d l) (sym lowest ∙ reached) (ap (set p.totals (p.from - k)) same) refl lowest at refl in
+      (both.0, uncarried q both.1 (omega (arith, ints)))
+
+  -- into the rest, two or more columns below the window
+  pub into_rest : (v : ℤ) → (d +ℤ pos 1) <ℤ low → v ≡ scale p.rest 32 +ℤ t
+      → let q : Fields = record { totals = p.totals; from = p.from - k; lowest = low; column = column; rest = v } in Took p q t d × Sound q
+  into_rest v far same =
+      let q : Fields = record { totals = p.totals; from = p.from - k; lowest = low; column = column; rest = v } in
+      let both = rested p (lowered p k) q t d a o (extended p k d l) (omega (arith, ints)) refl refl lowest at same in
+      (both.0, uncarried q both.1 (omega (arith, ints)))
+
+  -- into the rest right below the window, with n units that go on into the window
+  pub into_rest_and_window : (v w n : ℤ) → d +ℤ pos 1 ≡ low → nat_abs n ≤ 2 ^ 11 → nat_abs v ≤ 2 ^ 31 → v +ℤ scale n 32 ≡ scale p.rest 32 +ℤ t → w ≡ slot p 0 +ℤ n
+      → let q : Fields = record { totals = set p.totals 0 w; from = p.from - k; lowest = low; column = column; rest = v } in Took p q t d × Sound q
+  into_rest_and_window v w n next few little rest same =
+      let middle : Fields = record { totals = p.totals; from = p.from - k; lowest = low; column = column; rest = scale p.rest 32 +ℤ t } in
+      let q : Fields = record { totals = set p.totals 0 w; from = p.from - k; lowest = low; column = column; rest = v } in
+      let before = rested p (lowered p k) middle t d a o (extended p k d l) (omega (arith, ints)) refl refl lowest at refl in
+      let took = before.0 in
+      let both = carried middle q n p.whole before.1 (omega (arith, ints)) few little rest (ap (set p.totals 0) same) refl refl refl in
+      (record { value = both.0 ∙ took.value; at = took.at; no_higher = took.no_higher }, both.1)

@@ -1,5 +1,5 @@
 -- What rounding the two ends one by one says of both.
-use Rattle.std.proofs.Common.{◌≡◌, ℕ, ◌^◌, ◌≤◌, Bool, true, false, ℤ, pos, ◌+ℤ◌, neg_ℤ, nat_abs, ◌≤ℤ◌, ◌<ℤ◌, Some, None, Option, sym, refl, ◌∙◌, subst, arith}
+use Rattle.std.proofs.Common.{◌≡◌, ℕ, ◌^◌, ◌≤◌, Bool, true, false, ℤ, pos, ◌+ℤ◌, neg_ℤ, nat_abs, ◌<ℤ◌, Some, None, Option, sym, refl, ◌∙◌, subst, arith}
 use borrow.Author.Differences.{ints}
 use Rattle.std.proofs.lemmas.Int.{by_lt_z}
 use Rattle.exact.specs.Integers.{scale}
@@ -13,11 +13,12 @@ use Rattle.grid.proofs.Everywhere.{laws_everywhere}
 use Rattle.grid.proofs.Monotone.{congruent}
 use Rattle.ends.specs.declared.rounded_end.RoundedEnd.{RoundedEnd}
 use Rattle.partial_sum.specs.Lying.{Lies}
-use Rattle.partial_sum.specs.Holding.{drop_between, window, held, Sound}
-use Rattle.partial_sum.specs.Ends.{lower_number, upper_number, LiesAt, Reached, SameEnd}
-use Rattle.partial_sum.specs.Rounded.{Uncertain, Certain, SameAnswer, Undecided, Decided}
+use Rattle.partial_sum.specs.Limits.{drop_between, Sound, InReach}
+use Rattle.partial_sum.specs.Holding.{fields, window, held}
+use Rattle.partial_sum.specs.Ends.{lower_number, upper_number, LiesAt, Reached}
+use Rattle.partial_sum.specs.Rounded.{Uncertain, Certain, Undecided, Decided}
 use Rattle.partial_sum.specs.declared.sum.PartialSum.{PartialSum}
-use Rattle.partial_sum.specs.declared.end.End.{End}
+use Rattle.partial_sum.specs.declared.end.WindowEnd.{WindowEnd}
 use Rattle.partial_sum.proofs.Placing.{lies_once, sum_same}
 use Rattle.partial_sum.proofs.Ending.{last_lower, last_upper}
 use Rattle.partial_sum.proofs.Deciding.{full_determined, lower_apart, upper_apart}
@@ -31,7 +32,7 @@ last_same p n =
     ≈ᴰ_trans (lower_number p n None) (dyadic (held p +ℤ pos 0) c) (upper_number p n None) (sum_same (held p) (neg_ℤ (pos 0)) c c (omega (arith, ints)) refl)
     (≈ᴰ_sym (upper_number p n None) (dyadic (held p +ℤ pos 0) c) (sum_same (held p) (pos 0) c c (omega (arith, ints)) refl))
 
-module _ (u : ℤ → ℤ) (W : ℕ) (L : Lawful u W) (m : Mode) (p : PartialSum) (s : Sound p) (from : neg_ℤ (pos 60000000) ≤ℤ p.lowest) (upto : p.lowest ≤ℤ pos 60000000) (n : ℕ) where
+module _ (u : ℤ → ℤ) (W : ℕ) (L : Lawful u W) (m : Mode) (p : PartialSum) (s : Sound (fields p)) (reach : InReach p.lowest) (n : ℕ) where
   -- closed or open
   by_window : {P : Type 0} → (p.column <ℤ p.lowest → P) → (p.column ≡ p.lowest → P) → P
   by_window closed here = by_lt_z p.column p.lowest closed (λ l. here (let o = s.shaped.order in omega (arith, ints)))
@@ -39,60 +40,57 @@ module _ (u : ℤ → ℤ) (W : ℕ) (L : Lawful u W) (m : Mode) (p : PartialSum
   nothing_left : p.column ≡ p.lowest → nat_abs p.rest ≤ 1024
   nothing_left here = let z = s.shaped.open_rest here in omega (arith, ints)
 
-  pub undecided_lower : (below : Option ℤ) → Reached p n below → (e : End) → nat_abs e.offset ≤ 2 ^ 44 → LiesAt p e (lower_number p n below) → (e.partial ≡ true) × Uncertain u (window p +ℤ e.offset) (column_weight p.lowest) → Undecided u m p n below
+  pub undecided_lower : (below : Option ℤ) → Reached p n below → (e : WindowEnd) → nat_abs e.offset ≤ 2 ^ 44 → LiesAt p e (lower_number p n below) → (e.partial ≡ true) × Uncertain u (window p +ℤ e.offset) (column_weight p.lowest) → Undecided u m p n below
   undecided_lower None reached e few lies (part, uncertain) =
-      by_window (λ closed. absurd (full_determined u W L p e.offset s closed from upto few uncertain))
+      by_window (λ closed. absurd (full_determined u W L p e.offset s closed reach few uncertain))
       (λ here.
       (let z : p.rest ≡ scale (pos 0) (drop_between p.lowest p.column) = s.shaped.open_rest here ∙ sym (zero_scale (drop_between p.lowest p.column)) in
       let w = column_weight p.lowest in
       not_both (lies_once false (window p +ℤ pos 0) (window p +ℤ e.offset) w (lower_number p n None) (last_lower p record { offset = pos 0; partial = false } n p.rest s z refl) (subst (λ (b : Bool). Lies b (window p +ℤ e.offset) w (lower_number p n None)) part lies)).0))
   undecided_lower (Some d) reached e few lies (part, uncertain) =
-      by_window (λ closed. absurd (full_determined u W L p e.offset s closed from upto few uncertain))
+      by_window (λ closed. absurd (full_determined u W L p e.offset s closed reach few uncertain))
       (λ here. record {
         apart = lower_apart u (laws_everywhere u W L) m p s here n d reached (window p +ℤ e.offset) (subst (λ (b : Bool). Lies b (window p +ℤ e.offset) (column_weight p.lowest) (lower_number p n (Some d))) part lies) uncertain;
         rest_few = nothing_left here;
         rest_none = λ _. s.shaped.open_rest here;
       })
 
-  pub undecided_upper : (below : Option ℤ) → Reached p n below → (e : End) → nat_abs e.offset ≤ 2 ^ 44 → LiesAt p e (upper_number p n below) → (e.partial ≡ true) × Uncertain u (window p +ℤ e.offset) (column_weight p.lowest) → Undecided u m p n below
+  pub undecided_upper : (below : Option ℤ) → Reached p n below → (e : WindowEnd) → nat_abs e.offset ≤ 2 ^ 44 → LiesAt p e (upper_number p n below) → (e.partial ≡ true) × Uncertain u (window p +ℤ e.offset) (column_weight p.lowest) → Undecided u m p n below
   undecided_upper None reached e few lies (part, uncertain) =
-      by_window (λ closed. absurd (full_determined u W L p e.offset s closed from upto few uncertain))
+      by_window (λ closed. absurd (full_determined u W L p e.offset s closed reach few uncertain))
       (λ here.
       (let z : p.rest ≡ scale (pos 0) (drop_between p.lowest p.column) = s.shaped.open_rest here ∙ sym (zero_scale (drop_between p.lowest p.column)) in
       let w = column_weight p.lowest in
       not_both (lies_once false (window p +ℤ pos 0) (window p +ℤ e.offset) w (upper_number p n None) (last_upper p record { offset = pos 0; partial = false } n p.rest s z refl) (subst (λ (b : Bool). Lies b (window p +ℤ e.offset) w (upper_number p n None)) part lies)).0))
   undecided_upper (Some d) reached e few lies (part, uncertain) =
-      by_window (λ closed. absurd (full_determined u W L p e.offset s closed from upto few uncertain))
+      by_window (λ closed. absurd (full_determined u W L p e.offset s closed reach few uncertain))
       (λ here. record {
         apart = upper_apart u (laws_everywhere u W L) m p s here n d reached (window p +ℤ e.offset) (subst (λ (b : Bool). Lies b (window p +ℤ e.offset) (column_weight p.lowest) (upper_number p n (Some d))) part lies) uncertain;
         rest_few = nothing_left here;
         rest_none = λ _. s.shaped.open_rest here;
       })
 
-  module _ (below : Option ℤ) (reached : Reached p n below) (e f : End) (lower : LiesAt p e (lower_number p n below)) (upper : LiesAt p f (upper_number p n below)) (r q : RoundedEnd) (a b : ℕ)
+  module _ (below : Option ℤ) (reached : Reached p n below) (e f : WindowEnd) (lower : LiesAt p e (lower_number p n below)) (upper : LiesAt p f (upper_number p n below)) (r q : RoundedEnd) (a b : ℕ)
       (one : Certain u m e.partial (window p +ℤ e.offset) (column_weight p.lowest) r a) where
     module _ (two : Certain u m f.partial (window p +ℤ f.offset) (column_weight p.lowest) q b) where
-      pub decided : SameAnswer r q a b → Decided u m p n below r a
-      decided same = record {
-        alike = alike_from_same u m e.partial f.partial (window p +ℤ e.offset) (window p +ℤ f.offset) (column_weight p.lowest) r q a b (lower_number p n below) (upper_number p n below) one two lower upper same;
-        none = one.none;
-        placed = one.placed;
+      pub decided : r ≡ q → a ≡ b → Decided u m p n below r a
+      decided fields limbs = record {
+        alike = alike_from_same u m e.partial f.partial (window p +ℤ e.offset) (window p +ℤ f.offset) (column_weight p.lowest) r q a b (lower_number p n below) (upper_number p n below) one two lower upper fields limbs;
+        limbs = one.limbs;
         rounds = one.rounds (lower_number p n below) lower;
       }
 
-      pub apart_where_differ : ¬ SameAnswer r q a b → ¬ Alike (rounded u m (lower_number p n below)) (rounded u m (upper_number p n below))
+      pub apart_where_differ : ¬ ((r ≡ q) × (a ≡ b)) → ¬ Alike (rounded u m (lower_number p n below)) (rounded u m (upper_number p n below))
       apart_where_differ differ alike = differ (same_from_alike u m e.partial f.partial (window p +ℤ e.offset) (window p +ℤ f.offset) (column_weight p.lowest) r q a b (lower_number p n below) (upper_number p n below) one two lower upper alike)
 
-  pub decided_at_once : (below : Option ℤ) → Reached p n below → (e f : End) → LiesAt p e (lower_number p n below) → LiesAt p f (upper_number p n below) → (r : RoundedEnd) (a : ℕ) → Certain u m e.partial (window p +ℤ e.offset) (column_weight p.lowest) r a
-      → SameEnd e f → Decided u m p n below r a
-  decided_at_once below reached e f lower upper r a one (part, off) =
-      let w = column_weight p.lowest in
-      let there : LiesAt p e (upper_number p n below) = subst (λ (v : ℤ). Lies e.partial (window p +ℤ v) w (upper_number p n below)) (sym off) (subst (λ (b : Bool). Lies b (window p +ℤ f.offset) w (upper_number p n below)) (sym part) upper) in
-      decided below reached e e lower there r r a a one one record { zero = refl; negative = refl; direction = refl; exponent = λ _. refl; precision = λ _. refl; limbs = refl }
+  pub decided_at_once : (below : Option ℤ) → Reached p n below → (e f : WindowEnd) → LiesAt p e (lower_number p n below) → LiesAt p f (upper_number p n below) → (r : RoundedEnd) (a : ℕ) → Certain u m e.partial (window p +ℤ e.offset) (column_weight p.lowest) r a
+      → e ≡ f → Decided u m p n below r a
+  decided_at_once below reached e f lower upper r a one same =
+      decided below reached e e lower (subst (λ (g : WindowEnd). LiesAt p g (upper_number p n below)) (sym same) upper) r r a a one one refl refl
 
-  pub undecided : (below : Option ℤ) → Reached p n below → (e f : End) → LiesAt p e (lower_number p n below) → LiesAt p f (upper_number p n below) → (r q : RoundedEnd) (a b : ℕ)
+  pub undecided : (below : Option ℤ) → Reached p n below → (e f : WindowEnd) → LiesAt p e (lower_number p n below) → LiesAt p f (upper_number p n below) → (r q : RoundedEnd) (a b : ℕ)
       → Certain u m e.partial (window p +ℤ e.offset) (column_weight p.lowest) r a → Certain u m f.partial (window p +ℤ f.offset) (column_weight p.lowest) q b
-      → ¬ SameEnd e f → ¬ SameAnswer r q a b → Undecided u m p n below
+      → ¬ (e ≡ f) → ¬ ((r ≡ q) × (a ≡ b)) → Undecided u m p n below
   undecided None reached e f lower upper r q a b one two ends answers =
       apart_where_differ None reached e f lower upper r q a b one two answers (congruent u (laws_everywhere u W L) m (lower_number p n None) (upper_number p n None) (last_same p n))
   undecided (Some d) reached e f lower upper r q a b one two ends answers = record {

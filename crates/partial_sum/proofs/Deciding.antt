@@ -11,7 +11,8 @@ use Rattle.grid.specs.Rounding.{Mode, rounded, Alike}
 use Rattle.grid.proofs.Everywhere.{LawsEverywhere, laws_everywhere}
 use Rattle.grid.proofs.Apart.{apart}
 use Rattle.partial_sum.specs.Lying.{Lies}
-use Rattle.partial_sum.specs.Holding.{window, held, Sound}
+use Rattle.partial_sum.specs.Limits.{Sound, InReach}
+use Rattle.partial_sum.specs.Holding.{fields, window, held}
 use Rattle.partial_sum.specs.Ends.{number_held, lower_number, upper_number, Reached}
 use Rattle.partial_sum.specs.Rounded.{Uncertain}
 use Rattle.partial_sum.specs.declared.sum.PartialSum.{PartialSum}
@@ -40,9 +41,11 @@ coarse u W L w n from upto long =
     omega (arith, ints)
 
 -- so next to a full window everything is determined
-pub full_determined : (u : ℤ → ℤ) (W : ℕ) → Lawful u W → (p : PartialSum) (a : ℤ) → Sound p → p.column <ℤ p.lowest → neg_ℤ (pos 60000000) ≤ℤ p.lowest → p.lowest ≤ℤ pos 60000000 → nat_abs a ≤ 2 ^ 44
+pub full_determined : (u : ℤ → ℤ) (W : ℕ) → Lawful u W → (p : PartialSum) (a : ℤ) → Sound (fields p) → p.column <ℤ p.lowest → InReach p.lowest → nat_abs a ≤ 2 ^ 44
     → ¬ Uncertain u (window p +ℤ a) (column_weight p.lowest)
-full_determined u W L p a s closed from upto few uncertain =
+full_determined u W L p a s closed reach few uncertain =
+    let from = reach.from in
+    let upto = reach.upto in
     let w = column_weight p.lowest in
     let n = uncertain.magnitude in
     let long = magnitude_long p uncertain.negative n a s (s.shaped.closed_full closed) few uncertain.meant in
@@ -60,10 +63,10 @@ module _ (p : PartialSum) (n : ℕ) (d : ℤ) (reached : Reached p n (Some d)) w
   upper_more = let below = reached.0 in let some = reached.1 in sum_more (held p) (pos n) (column_weight p.column) (column_weight (d +ℤ pos 1)) (omega (arith, ints)) (omega (arith, ints))
 
 -- the sum in units of the window
-pub whole_units : (p : PartialSum) → Sound p → p.column ≡ p.lowest → number_held p ≡ dyadic (window p) (column_weight p.lowest)
-whole_units p s here = ap (λ (z : ℤ). dyadic z (column_weight p.column)) (held_open p (sym here) (s.shaped.open_rest here)) ∙ ap (λ (c : ℤ). dyadic (window p) (column_weight c)) here
+pub whole_units : (p : PartialSum) → Sound (fields p) → p.column ≡ p.lowest → number_held p ≡ dyadic (window p) (column_weight p.lowest)
+whole_units p s here = ap (λ (z : ℤ). dyadic z (column_weight p.column)) (held_open (fields p) (sym here) (s.shaped.open_rest here)) ∙ ap (λ (c : ℤ). dyadic (window p) (column_weight c)) here
 
-module _ (u : ℤ → ℤ) (S : LawsEverywhere u) (m : Mode) (p : PartialSum) (s : Sound p) (here : p.column ≡ p.lowest) (n : ℕ) (d : ℤ) (reached : Reached p n (Some d)) where
+module _ (u : ℤ → ℤ) (S : LawsEverywhere u) (m : Mode) (p : PartialSum) (s : Sound (fields p)) (here : p.column ≡ p.lowest) (n : ℕ) (d : ℤ) (reached : Reached p n (Some d)) where
   pub lower_apart : (v : ℤ) → Lies true v (column_weight p.lowest) (lower_number p n (Some d)) → Uncertain u v (column_weight p.lowest) → ¬ Alike (rounded u m (lower_number p n (Some d))) (rounded u m (upper_number p n (Some d)))
   lower_apart v (l, g) uncertain =
       let w = column_weight p.lowest in

@@ -9,7 +9,7 @@ use Rattle.column.specs.Parts.{Part, low}
 use Rattle.column.specs.Columns.{Occupied}
 use Rattle.column.specs.Ends.{reaching_below, sum_down_to, bound}
 use Rattle.column.specs.Walk.{first_column}
-use Rattle.partial_sum.specs.Holding.{drop_between}
+use Rattle.partial_sum.specs.Limits.{drop_between}
 use Rattle.partial_sum.specs.Ends.{number_held, bound_before}
 use Rattle.partial_sum.specs.Joints.{Holds, EndsAreEnds, ColumnsReached, SumsAbsorbed}
 use Rattle.partial_sum.specs.declared.sum.PartialSum.{PartialSum}

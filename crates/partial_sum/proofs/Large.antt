@@ -9,7 +9,8 @@ use Rattle.exact.specs.Integers.{scale}
 use Rattle.exact.proofs.Scaling.{scale_none, scale_scale, scale_abs}
 use Rattle.exact.proofs.LimbBits.{pow_next_limb}
 use Rattle.totals.specs.Totals.{totals_value}
-use Rattle.partial_sum.specs.Holding.{slot, head, window, Sound}
+use Rattle.partial_sum.specs.Limits.{Sound}
+use Rattle.partial_sum.specs.Holding.{fields, slot, head, window}
 use Rattle.partial_sum.specs.Ends.{Meant}
 use Rattle.partial_sum.specs.declared.sum.PartialSum.{PartialSum}
 use Rattle.partial_sum.proofs.Windows.{value_below}
@@ -41,7 +42,7 @@ far_from_none k low high deep small large =
     omega (arith, ints)
 
 -- the two highest totals of a window that is longer
-pub top_large : (p : PartialSum) → Sound p → p.from < 129 → 2 ^ 32 ≤ nat_abs (totals_value (drop 128 p.totals))
+pub top_large : (p : PartialSum) → Sound (fields p) → p.from < 129 → 2 ^ 32 ≤ nat_abs (totals_value (drop 128 p.totals))
 top_large p s long =
     let value : totals_value (drop 128 p.totals) ≡ slot p 128 +ℤ scale (totals_value (drop 129 p.totals)) 32 = ap totals_value (drop_more p.totals 128 (pos 0) (omega (arith, p.whole))) ∙ value_below (slot p 128) (drop 129 p.totals) in
     let top : totals_value (drop 129 p.totals) ≡ head p = head_alone p.totals p.whole in
@@ -52,7 +53,7 @@ top_large p s long =
     (λ (large : 2 ^ 20 ≤ nat_abs (head p)). omega (arith, ints))
     (cases_lt (nat_abs (head p)) (2 ^ 20))
 
-pub window_large : (p : PartialSum) (k : ℕ) → Sound p → p.from ≡ 0 → k ≡ 32 * 128 → 2 ^ 31 * 2 ^ k + 2 ^ 50 ≤ nat_abs (window p)
+pub window_large : (p : PartialSum) (k : ℕ) → Sound (fields p) → p.from ≡ 0 → k ≡ 32 * 128 → 2 ^ 31 * 2 ^ k + 2 ^ 50 ≤ nat_abs (window p)
 window_large p k s full e =
     let ts = p.totals in
     let long : length (take 128 ts) ≡ 128 = length-take-le 128 ts (omega (arith, p.whole)) in
@@ -74,7 +75,7 @@ meant_large : (s : Bool) (n k : ℕ) (a v : ℤ) → nat_abs a ≤ 2 ^ 44 → 2 
 meant_large false n k a v few large e = omega (arith, ints)
 meant_large true n k a v few large e = omega (arith, ints)
 
-pub magnitude_long : (p : PartialSum) (s : Bool) (n : ℕ) (a : ℤ) → Sound p → p.from ≡ 0 → nat_abs a ≤ 2 ^ 44 → Meant s true n (window p +ℤ a) → 4128 ≤ size n
+pub magnitude_long : (p : PartialSum) (s : Bool) (n : ℕ) (a : ℤ) → Sound (fields p) → p.from ≡ 0 → nat_abs a ≤ 2 ^ 44 → Meant s true n (window p +ℤ a) → 4128 ≤ size n
 magnitude_long p s n a sound full few meant = at 4096 refl
   where
     at : (k : ℕ) → k ≡ 4096 → 4128 ≤ size n

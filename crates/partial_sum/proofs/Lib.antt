@@ -14,3 +14,4 @@ mod Resting
 mod Assembling
 mod LimbLists
 pub mod Joining
+mod Same

@@ -1,5 +1,5 @@
 -- Where the ends of a full window differ, the rest below it is small.
-use Rattle.std.proofs.Common.{◌≡◌, ℕ, ◌+◌, ◌^◌, ◌<◌, ◌≤◌, Bool, true, false, ℤ, pos, negsuc, ◌+ℤ◌, ◌-ℤ◌, neg_ℤ, nat_abs, ◌≤ℤ◌, ◌<ℤ◌, Some, sym, refl, ◌∙◌, ⊎_elim, arith, pow_mono}
+use Rattle.std.proofs.Common.{◌≡◌, ℕ, ◌+◌, ◌^◌, ◌<◌, ◌≤◌, Bool, true, false, ℤ, pos, negsuc, ◌+ℤ◌, ◌-ℤ◌, neg_ℤ, nat_abs, ◌≤ℤ◌, ◌<ℤ◌, Some, sym, refl, ap, ◌∙◌, ⊎_elim, arith, pow_mono}
 use borrow.Author.Differences.{ints}
 use Rattle.std.proofs.lemmas.Int.{by_lt_z}
 use Rattle.std.proofs.lemmas.Bool.{cases_lt}
@@ -8,10 +8,11 @@ use Rattle.exact.specs.Dyadic.{Dyadic}
 use Rattle.exact.proofs.Scaling.{zero_scale}
 use Rattle.batch.specs.Term.{column_weight}
 use Rattle.partial_sum.specs.Lying.{Placed}
-use Rattle.partial_sum.specs.Holding.{drop_between, window, Sound}
-use Rattle.partial_sum.specs.Ends.{lower_number, upper_number, LiesAt, Reached, SameEnd}
+use Rattle.partial_sum.specs.Limits.{drop_between, Sound}
+use Rattle.partial_sum.specs.Holding.{fields, window}
+use Rattle.partial_sum.specs.Ends.{lower_number, upper_number, LiesAt, Reached}
 use Rattle.partial_sum.specs.declared.sum.PartialSum.{PartialSum}
-use Rattle.partial_sum.specs.declared.end.End.{End}
+use Rattle.partial_sum.specs.declared.end.WindowEnd.{WindowEnd}
 use Rattle.partial_sum.proofs.Placing.{lies_once}
 use Rattle.partial_sum.proofs.Ending.{next_lower, next_upper, gap_lower, gap_upper}
 
@@ -32,27 +33,32 @@ unit_below k n high low =
 at_or_above : (k : ℕ) (n : ℤ) → pos 0 ≤ℤ n → n <ℤ pos (2 ^ k) → (b : Bool) × Placed b k n (pos 0)
 at_or_above k n low high = by_lt_z (pos 0) n (λ l. (true, unit_above k n l high)) (λ l. (false, (let z : n ≡ pos 0 = omega (arith, ints) in z ∙ sym (zero_scale k))))
 
-abbrev end_at : ℤ → End
+abbrev end_at : ℤ → WindowEnd
 end_at v = record { offset = v; partial = true }
 
-same_unit : (p : PartialSum) (e f : End) (v : ℤ) (x y : Dyadic) → LiesAt p e x → LiesAt p f y → LiesAt p (end_at v) x → LiesAt p (end_at v) y → SameEnd e f
+same_end : (e f : WindowEnd) → e.partial ≡ f.partial → e.offset ≡ f.offset → e ≡ f
+same_end e f p o =
+    let of : ℤ → Bool → WindowEnd = λ v b. record { offset = v; partial = b } in
+    ap (of e.offset) p ∙ ap (λ (v : ℤ). of v f.partial) o
+
+same_unit : (p : PartialSum) (e f : WindowEnd) (v : ℤ) (x y : Dyadic) → LiesAt p e x → LiesAt p f y → LiesAt p (end_at v) x → LiesAt p (end_at v) y → e ≡ f
 same_unit p e f v x y le lf lx ly =
     let a = lies_once e.partial (window p +ℤ e.offset) (window p +ℤ v) (column_weight p.lowest) x le lx in
     let b = lies_once f.partial (window p +ℤ f.offset) (window p +ℤ v) (column_weight p.lowest) y lf ly in
     let i = a.1 in
     let j = b.1 in
-    (a.0 ∙ sym b.0, omega (arith, ints))
+    same_end e f (a.0 ∙ sym b.0) (omega (arith, ints))
 
 -- the rest and what can still come are less than a unit of the window's lowest column
-less_than_window : (p : PartialSum) (n : ℕ) → Sound p → p.column <ℤ p.lowest → n ≤ 1024 → nat_abs p.rest + n + 1 < 2 ^ drop_between p.lowest p.column
+less_than_window : (p : PartialSum) (n : ℕ) → Sound (fields p) → p.column <ℤ p.lowest → n ≤ 1024 → nat_abs p.rest + n + 1 < 2 ^ drop_between p.lowest p.column
 less_than_window p n s closed few =
     let k = drop_between p.lowest p.column in
     by_lt_z (p.column +ℤ pos 1) p.lowest
     (λ far. (let deep : 64 ≤ k = omega (arith, ints) in let big : 2 ^ 64 ≤ 2 ^ k = pow_mono deep in let small = s.shaped.rest_small in omega arith))
     (λ near. (let next : p.column +ℤ pos 1 ≡ p.lowest = omega (arith, ints) in let deep : 32 ≤ k = omega (arith, ints) in let big : 2 ^ 32 ≤ 2 ^ k = pow_mono deep in let small = s.near_rest next in omega arith))
 
-module _ (p : PartialSum) (n : ℕ) (d : ℤ) (s : Sound p) (closed : p.column <ℤ p.lowest) (reached : Reached p n (Some d)) (e f : End)
-    (lower : LiesAt p e (lower_number p n (Some d))) (upper : LiesAt p f (upper_number p n (Some d))) (differ : ¬ SameEnd e f) where
+module _ (p : PartialSum) (n : ℕ) (d : ℤ) (s : Sound (fields p)) (closed : p.column <ℤ p.lowest) (reached : Reached p n (Some d)) (e f : WindowEnd)
+    (lower : LiesAt p e (lower_number p n (Some d))) (upper : LiesAt p f (upper_number p n (Some d))) (differ : ¬ (e ≡ f)) where
   pub rest_none : (d +ℤ pos 1) <ℤ p.column → p.rest ≡ pos 0
   rest_none far =
       let some = reached.1 in

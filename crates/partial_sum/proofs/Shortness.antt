@@ -14,7 +14,8 @@ use Rattle.grid.specs.Rounding.{Mode, OnGrid}
 use Rattle.grid.proofs.Everywhere.{LawsEverywhere, laws_everywhere}
 use Rattle.grid.proofs.Apart.{apart}
 use Rattle.totals.specs.Totals.{totals_value}
-use Rattle.partial_sum.specs.Holding.{slot, head, window, Sound}
+use Rattle.partial_sum.specs.Limits.{Sound}
+use Rattle.partial_sum.specs.Holding.{fields, slot, head, window}
 use Rattle.partial_sum.specs.Ends.{number_held, lower_number, upper_number, Reached}
 use Rattle.partial_sum.specs.Rounded.{Undecided}
 use Rattle.partial_sum.specs.declared.sum.PartialSum.{PartialSum}
@@ -24,7 +25,7 @@ use Rattle.partial_sum.proofs.Deciding.{rises_far, lower_less, upper_more, whole
 
 -- ---- how long a window can be
 -- the head and j totals below it are less than 2 ^ 53 units of the head
-within : (p : PartialSum) → Sound p → (j i : ℕ) → i + j ≡ 129 → nat_abs (totals_value (drop i p.totals)) + 2 ^ 12 ≤ 2 ^ 53 * 2 ^ (32 * j)
+within : (p : PartialSum) → Sound (fields p) → (j i : ℕ) → i + j ≡ 129 → nat_abs (totals_value (drop i p.totals)) + 2 ^ 12 ≤ 2 ^ 53 * 2 ^ (32 * j)
 within p s zero i e =
     let at : totals_value (drop i p.totals) ≡ head p = ap (λ (k : ℕ). totals_value (drop k p.totals)) (let f : i ≡ 129 = omega arith in f) ∙ head_alone p.totals p.whole in
     let small = s.shaped.head_small in
@@ -36,14 +37,14 @@ within p s (suc j) i e =
     let next : 2 ^ (32 * suc j) ≡ 4294967296 * 2 ^ (32 * j) = pow_next_limb j in
     omega (arith, ints)
 
-window_length : (p : PartialSum) → Sound p → size (nat_abs (window p)) ≤ 53 + 32 * (129 - p.from)
+window_length : (p : PartialSum) → Sound (fields p) → size (nat_abs (window p)) ≤ 53 + 32 * (129 - p.from)
 window_length p s =
     let j = 129 - p.from in
     let bound = within p s j p.from (omega (arith, p.used)) in
     let power : 2 ^ (53 + 32 * j) ≡ 2 ^ 53 * 2 ^ (32 * j) = pow-add 2 53 (32 * j) in
     size-le (nat_abs (window p)) (53 + 32 * j) (omega arith)
 
-pub window_exponent : (p : PartialSum) → Sound p → exponent (dyadic (window p) (column_weight p.lowest)) ≤ℤ (column_weight p.lowest +ℤ pos (53 + 32 * (129 - p.from)))
+pub window_exponent : (p : PartialSum) → Sound (fields p) → exponent (dyadic (window p) (column_weight p.lowest)) ≤ℤ (column_weight p.lowest +ℤ pos (53 + 32 * (129 - p.from)))
 window_exponent p s = let long = window_length p s in omega (arith, ints)
 
 -- ---- a grid no coarser than the unit
@@ -56,7 +57,7 @@ units_on_grid u v w fine =
     let q = scale v (gap w z) in
     inr (q, sym (scale_none q) ∙ ap (scale q) (sym (gap_none z w fine)))
 
-pub sum_on_grid : (u : ℤ → ℤ) (W : ℕ) → Lawful u W → (p : PartialSum) → Sound p → p.column ≡ p.lowest → (top : ℤ) → exponent (dyadic (window p) (column_weight p.lowest)) ≤ℤ top → u top ≤ℤ column_weight p.lowest → OnGrid u (number_held p)
+pub sum_on_grid : (u : ℤ → ℤ) (W : ℕ) → Lawful u W → (p : PartialSum) → Sound (fields p) → p.column ≡ p.lowest → (top : ℤ) → exponent (dyadic (window p) (column_weight p.lowest)) ≤ℤ top → u top ≤ℤ column_weight p.lowest → OnGrid u (number_held p)
 sum_on_grid u W L p s here top upto fine =
     let w = column_weight p.lowest in
     let up = rises_to u (laws_everywhere u W L) (exponent (dyadic (window p) w)) top upto in

@@ -6,7 +6,8 @@ use Rattle.std.proofs.lemmas.Bool.{cases_lt, cases_eq}
 use Rattle.exact.specs.Limbs.{limbs_value}
 use Rattle.exact.proofs.LimbSteps.{value_push}
 use Rattle.totals.specs.Totals.{totals_value, SmallTotals}
-use Rattle.partial_sum.specs.Holding.{slot, window, Sound}
+use Rattle.partial_sum.specs.Limits.{Sound}
+use Rattle.partial_sum.specs.Holding.{fields, slot, window}
 use Rattle.partial_sum.specs.declared.sum.PartialSum.{PartialSum}
 use Rattle.partial_sum.proofs.Windows.{value_changed}
 
@@ -22,10 +23,10 @@ slice_length p v = ap length (from_slot p v) ∙ length-drop p.from (set p.total
 pub slice_value : (p : PartialSum) (a v : ℤ) → v ≡ slot p p.from +ℤ a → totals_value (take (130 - p.from) (drop p.from (set p.totals p.from v))) ≡ window p +ℤ a
 slice_value p a v e = ap totals_value (from_slot p v) ∙ value_changed p.totals p.from a v (omega (arith, p.whole, p.used)) e
 
-pub slot_small : (p : PartialSum) → Sound p → (k : ℕ) → k < 130 → nat_abs (slot p k) ≤ 2 ^ 52 + 2 ^ 42
+pub slot_small : (p : PartialSum) → Sound (fields p) → (k : ℕ) → k < 130 → nat_abs (slot p k) ≤ 2 ^ 52 + 2 ^ 42
 slot_small p s k l = ⊎_elim (λ (i : k < 129). (let h = s.all_totals k i in omega arith)) (λ (i : 129 ≤ k). subst (λ (j : ℕ). nat_abs (slot p j) ≤ 2 ^ 52 + 2 ^ 42) (let e : 129 ≡ k = omega arith in e) s.shaped.head_small) (cases_lt k 129)
 
-pub slice_small : (p : PartialSum) (a v : ℤ) → Sound p → nat_abs a ≤ 2 ^ 45 → v ≡ slot p p.from +ℤ a → SmallTotals (take (130 - p.from) (drop p.from (set p.totals p.from v)))
+pub slice_small : (p : PartialSum) (a v : ℤ) → Sound (fields p) → nat_abs a ≤ 2 ^ 45 → v ≡ slot p p.from +ℤ a → SmallTotals (take (130 - p.from) (drop p.from (set p.totals p.from v)))
 slice_small p a v s few e k l =
     let long = slice_length p v in
     let inside : p.from + k < 130 = omega (arith, p.used) in

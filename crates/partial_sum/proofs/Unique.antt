@@ -1,23 +1,24 @@
 -- An answer's limbs, exponent and precision are determined by what number it is.
-use Rattle.std.proofs.Common.{◌≡◌, ℕ, zero, suc, ◌+◌, ◌-◌, ◌*◌, ◌^◌, ◌<◌, ◌≤◌, Bool, true, false, ℤ, pos, ◌+ℤ◌, ◌-ℤ◌, nat_abs, sym, refl, ap, ◌∙◌, subst, mul-pos, pow-suc, arith, pow_pos}
+use Rattle.std.proofs.Common.{◌≡◌, ℕ, zero, suc, ◌+◌, ◌-◌, ◌*◌, ◌^◌, ◌<◌, ◌≤◌, Bool, true, false, ℤ, pos, ◌+ℤ◌, ◌-ℤ◌, nat_abs, Some, None, Option, sym, refl, ap, ◌∙◌, subst, mul-pos, pow-suc, arith, pow_pos}
 use lib.Ieee.{size}
 use borrow.Author.Differences.{ints}
 use Rattle.exact.specs.Integers.{gap, scale, signed}
 use Rattle.exact.specs.Dyadic.{Dyadic, dyadic, ◌≈ᴰ◌, Nonzero, exponent}
 use Rattle.exact.proofs.Integers.{abs_neg}
-use Rattle.exact.proofs.Scaling.{scale_none, zero_scale}
+use Rattle.exact.proofs.Scaling.{scale_none}
 use Rattle.exact.proofs.BitLength.{size_is, size_scale}
 use Rattle.exact.proofs.Order.{≈ᴰ_sym, ≈ᴰ_trans}
 use Rattle.exact.proofs.Exponents.{exponent_≈, nonzero_≈}
 use Rattle.grid.specs.Rounding.{Mode, rounded, Alike}
 use Rattle.limbs.specs.Bits.{limbs_for}
 use Rattle.ends.specs.Directions.{direction_sign}
-use Rattle.ends.specs.Outcome.{RoundsTo, Placed}
+use Rattle.ends.specs.Outcome.{RoundsAs, Placed, Written, number_told}
 use Rattle.ends.specs.declared.direction.Direction.{Direction}
 use Rattle.ends.specs.declared.direction.Direction.TheVariants.{Below, Exact, Above}
+use Rattle.ends.specs.declared.rounded_end.Extent.{Extent}
 use Rattle.ends.specs.declared.rounded_end.RoundedEnd.{RoundedEnd}
 use Rattle.partial_sum.specs.Lying.{Lies}
-use Rattle.partial_sum.specs.Rounded.{Certain, SameAnswer}
+use Rattle.partial_sum.specs.Rounded.{Certain}
 
 abs_signed : (s : Bool) (n : ℕ) → nat_abs (signed s n) ≡ n
 abs_signed false n = refl
@@ -84,75 +85,58 @@ signs_apart Above Below h = absurd (omega (arith, ints))
 signs_apart Above Exact h = absurd (omega (arith, ints))
 signs_apart Above Above h = refl
 
-nothing_signed : (s : Bool) → signed s 0 ≡ pos 0
-nothing_signed false = refl
-nothing_signed true = refl
-
 -- ---- two answers
--- the number that an answer's limbs stand for
-abbrev written : RoundedEnd → ℕ → Dyadic
-written r k = dyadic (signed r.negative k) (last_weight r.exponent r.precision)
-
 pub not_both : false ≡ true → ⊥
 not_both e = grind arith
 
+same_extent : (x y : Extent) → x.exponent ≡ y.exponent → x.precision ≡ y.precision → x ≡ y
+same_extent x y e p =
+    let of : ℤ → ℕ → Extent = λ f q. record { exponent = f; precision = q } in
+    ap (λ (f : ℤ). of f x.precision) e ∙ ap (of y.exponent) p
+
+same_answer : (r q : RoundedEnd) → r.negative ≡ q.negative → r.direction ≡ q.direction → r.extent ≡ q.extent → r ≡ q
+same_answer r q n d x =
+    let of : Bool → Direction → Option Extent → RoundedEnd = λ s t y. record { negative = s; direction = t; extent = y } in
+    ap (λ (s : Bool). of s r.direction r.extent) n ∙ ap (λ (t : Direction). of q.negative t r.extent) d ∙ ap (of q.negative q.direction) x
+
+-- a number determines the extent and the limbs that it is told by
+same_told : (u : ℤ → ℤ) (s : Bool) (x y : Option Extent) (k l : ℕ) → Written u x k → Written u y l → number_told s x k ≈ᴰ number_told s y l → (x ≡ y) × (k ≡ l)
+same_told u s None None k l one two values = (refl, one ∙ sym two)
+same_told u s (Some x) (Some y) k l one two values = (
+  ap Some (same_extent x y (same_exponent u x.exponent y.exponent x.precision y.precision k l s one two values) (same_precision u x.exponent y.exponent x.precision y.precision k l s one two values)),
+  same_limbs u x.exponent y.exponent x.precision y.precision k l s one two values,
+)
+same_told u s None (Some y) k l one two values = absurd (nonzero_≈ (number_told s (Some y) l) (number_told s None k) (placed_some u y.exponent y.precision l s two) (sym values) refl)
+same_told u s (Some x) None k l one two values = absurd (nonzero_≈ (number_told s (Some x) k) (number_told s None l) (placed_some u x.exponent x.precision k s one) values refl)
+
+-- the number that an answer's limbs stand for
+abbrev told : RoundedEnd → ℕ → Dyadic
+told r k = number_told r.negative r.extent k
+
 module _ (u : ℤ → ℤ) (m : Mode) (b c : Bool) (v w z : ℤ) (r q : RoundedEnd) (k l : ℕ) (x y : Dyadic) (one : Certain u m b v z r k) (two : Certain u m c w z q l) (here : Lies b v z x) (there : Lies c w z y) where
-  rounds_one : RoundsTo u m x r.negative k (last_weight r.exponent r.precision) (direction_sign r.direction)
+  rounds_one : RoundsAs u m x r.negative r.extent k (direction_sign r.direction)
   rounds_one = one.rounds x here
 
-  rounds_two : RoundsTo u m y q.negative l (last_weight q.exponent q.precision) (direction_sign q.direction)
+  rounds_two : RoundsAs u m y q.negative q.extent l (direction_sign q.direction)
   rounds_two = two.rounds y there
 
-  by_zero : (f g : Bool) → r.zero ≡ f → q.zero ≡ g → r.negative ≡ q.negative → r.direction ≡ q.direction → written r k ≈ᴰ written q l → SameAnswer r q k l
-  by_zero true true f g signs ways values =
-      record { zero = f ∙ sym g; negative = signs; direction = ways; exponent = λ h. absurd (not_both (sym h ∙ f)); precision = λ h. absurd (not_both (sym h ∙ f)); limbs = one.none f ∙ sym (two.none g) }
-  by_zero false false f g signs ways values =
-      let d = one.placed f in
-      let e = two.placed g in
-      let same : dyadic (signed q.negative k) (last_weight r.exponent r.precision) ≈ᴰ written q l = subst (λ (t : Bool). dyadic (signed t k) (last_weight r.exponent r.precision) ≈ᴰ written q l) signs values in
-      record {
-        zero = f ∙ sym g;
-        negative = signs;
-        direction = ways;
-        exponent = λ _. same_exponent u r.exponent q.exponent r.precision q.precision k l q.negative d e same;
-        precision = λ _. same_precision u r.exponent q.exponent r.precision q.precision k l q.negative d e same;
-        limbs = same_limbs u r.exponent q.exponent r.precision q.precision k l q.negative d e same;
-      }
-  by_zero true false f g signs ways values =
-      absurd (nonzero_≈ (written q l) (written r k) (placed_some u q.exponent q.precision l q.negative (two.placed g)) (sym values) (ap (signed r.negative) (one.none f) ∙ nothing_signed r.negative))
-  by_zero false true f g signs ways values =
-      absurd (nonzero_≈ (written r k) (written q l) (placed_some u r.exponent r.precision k r.negative (one.placed f)) values (ap (signed q.negative) (two.none g) ∙ nothing_signed q.negative))
-
-  pub same_from_alike : Alike (rounded u m x) (rounded u m y) → SameAnswer r q k l
+  pub same_from_alike : Alike (rounded u m x) (rounded u m y) → (r ≡ q) × (k ≡ l)
   same_from_alike alike =
       let i = rounds_one in
       let j = rounds_two in
-      by_zero r.zero q.zero refl refl
-      (sym i.signs ∙ alike.signs ∙ j.signs)
-      (signs_apart r.direction q.direction (sym i.directions ∙ alike.directions ∙ j.directions))
-      (≈ᴰ_trans (written r k) (rounded u m x).value (written q l) (≈ᴰ_sym (rounded u m x).value (written r k) i.values) (≈ᴰ_trans (rounded u m x).value (rounded u m y).value (written q l) alike.values j.values))
+      let signs : r.negative ≡ q.negative = sym i.signs ∙ alike.signs ∙ j.signs in
+      let values : told r k ≈ᴰ told q l =
+      ≈ᴰ_trans (told r k) (rounded u m x).value (told q l) (≈ᴰ_sym (rounded u m x).value (told r k) i.values) (≈ᴰ_trans (rounded u m x).value (rounded u m y).value (told q l) alike.values j.values) in
+      let both = same_told u q.negative r.extent q.extent k l one.limbs two.limbs (subst (λ (s : Bool). number_told s r.extent k ≈ᴰ told q l) signs values) in
+      (same_answer r q signs (signs_apart r.direction q.direction (sym i.directions ∙ alike.directions ∙ j.directions)) both.0, both.1)
 
-  written_same : (f : Bool) → r.zero ≡ f → SameAnswer r q k l → written r k ≈ᴰ written q l
-  written_same true f same =
-      let a : signed r.negative k ≡ pos 0 = ap (signed r.negative) (one.none f) ∙ nothing_signed r.negative in
-      let b : signed q.negative l ≡ pos 0 = ap (signed q.negative) (two.none (sym same.zero ∙ f)) ∙ nothing_signed q.negative in
-      let g = gap (last_weight r.exponent r.precision) (last_weight q.exponent q.precision) in
-      let h = gap (last_weight q.exponent q.precision) (last_weight r.exponent r.precision) in
-      ap (λ (n : ℤ). scale n g) a ∙ zero_scale g ∙ sym (zero_scale h) ∙ ap (λ (n : ℤ). scale n h) (sym b)
-  written_same false f same =
-      let e : written r k ≡ written q l =
-      ap (λ (t : Bool). dyadic (signed t k) (last_weight r.exponent r.precision)) same.negative
-      ∙ ap (λ (n : ℕ). dyadic (signed q.negative n) (last_weight r.exponent r.precision)) same.limbs
-      ∙ ap (λ (n : ℤ). dyadic (signed q.negative l) (last_weight n r.precision)) (same.exponent f)
-      ∙ ap (λ (n : ℕ). dyadic (signed q.negative l) (last_weight q.exponent n)) (same.precision f) in
-      subst (λ (n : Dyadic). written r k ≈ᴰ n) e refl
-
-  pub alike_from_same : SameAnswer r q k l → Alike (rounded u m x) (rounded u m y)
-  alike_from_same same =
+  pub alike_from_same : r ≡ q → k ≡ l → Alike (rounded u m x) (rounded u m y)
+  alike_from_same fields limbs =
       let i = rounds_one in
       let j = rounds_two in
+      let values : told r k ≡ told q l = ap (λ (e : RoundedEnd). told e k) fields ∙ ap (told q) limbs in
       record {
-        values = ≈ᴰ_trans (rounded u m x).value (written r k) (rounded u m y).value i.values (≈ᴰ_trans (written r k) (written q l) (rounded u m y).value (written_same r.zero refl same) (≈ᴰ_sym (rounded u m y).value (written q l) j.values));
-        signs = i.signs ∙ same.negative ∙ sym j.signs;
-        directions = i.directions ∙ ap direction_sign same.direction ∙ sym j.directions;
+        values = ≈ᴰ_trans (rounded u m x).value (told q l) (rounded u m y).value (subst (λ (t : Dyadic). (rounded u m x).value ≈ᴰ t) values i.values) (≈ᴰ_sym (rounded u m y).value (told q l) j.values);
+        signs = i.signs ∙ ap (λ (e : RoundedEnd). e.negative) fields ∙ sym j.signs;
+        directions = i.directions ∙ ap (λ (e : RoundedEnd). direction_sign e.direction) fields ∙ sym j.directions;
       }

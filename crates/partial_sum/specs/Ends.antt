@@ -3,9 +3,10 @@ use Rattle.std.specs.Prelude.{◌≡◌, ℕ, ◌+◌, ◌<◌, ◌≤◌, Bool,
 use Rattle.exact.specs.Dyadic.{Dyadic, dyadic, plus, negation}
 use Rattle.batch.specs.Term.{column_weight}
 use Rattle.partial_sum.specs.Lying.{Placed, Lies}
-use Rattle.partial_sum.specs.Holding.{drop_between, window, held}
+use Rattle.partial_sum.specs.Limits.{drop_between}
+use Rattle.partial_sum.specs.Holding.{window, held}
 use Rattle.partial_sum.specs.declared.sum.PartialSum.{PartialSum}
-use Rattle.partial_sum.specs.declared.end.End.{End}
+use Rattle.partial_sum.specs.declared.end.WindowEnd.{WindowEnd}
 
 -- the partial sum as a number
 abbrev pub number_held : PartialSum → Dyadic
@@ -29,11 +30,11 @@ Reached p n None = Unit {0}
 Reached p n (Some d) = (d <ℤ p.column) × (0 < n) × (n ≤ 1024)
 
 -- an end says where a number lies
-abbrev pub LiesAt : PartialSum → End → Dyadic → Type 0
+abbrev pub LiesAt : PartialSum → WindowEnd → Dyadic → Type 0
 LiesAt p e x = Lies e.partial (window p +ℤ e.offset) (column_weight p.lowest) x
 
 -- so many units of the sum's column, seen from the window
-abbrev pub PlacedAt : PartialSum → End → ℤ → Type 0
+abbrev pub PlacedAt : PartialSum → WindowEnd → ℤ → Type 0
 PlacedAt p e n = Placed e.partial (drop_between p.lowest p.column) n e.offset
 
 -- an offset at which so many units of the sum's column lie, wholly or in part
@@ -45,7 +46,3 @@ abbrev pub Meant : Bool → Bool → ℕ → ℤ → Type 0
 Meant false partial n v = v ≡ pos n
 Meant true false n v = (v ≡ neg_ℤ (pos n)) × (0 < n)
 Meant true true n v = v ≡ neg_ℤ (pos (n + 1))
-
--- two ends are the same
-abbrev pub SameEnd : End → End → Type 0
-SameEnd e f = (e.partial ≡ f.partial) × (e.offset ≡ f.offset)

@@ -1,3 +1,4 @@
+pub mod Limits
 pub mod Holding
 pub mod Lying
 pub mod Ends

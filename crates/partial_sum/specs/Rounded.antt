@@ -1,11 +1,10 @@
 -- What the numbers at an end round to.
-use Rattle.std.specs.Prelude.{◌≡◌, ℕ, ◌*◌, ◌≤◌, Bool, true, false, ℤ, pos, ◌+ℤ◌, ◌-ℤ◌, ◌≤ℤ◌, ◌<ℤ◌, Some, None, Option, unsigned_abs}
+use Rattle.std.specs.Prelude.{◌≡◌, ℕ, ◌≤◌, Bool, true, ℤ, pos, ◌+ℤ◌, ◌≤ℤ◌, ◌<ℤ◌, Some, None, Option, unsigned_abs}
 use Rattle.exact.specs.Dyadic.{Dyadic, dyadic}
 use Rattle.grid.specs.Rounding.{Mode, rounded, OnGrid, Alike}
-use Rattle.limbs.specs.Bits.{limbs_for}
 use Rattle.ends.specs.Directions.{direction_sign}
 use Rattle.ends.specs.Ends.{spacing_there}
-use Rattle.ends.specs.Outcome.{RoundsTo, Placed}
+use Rattle.ends.specs.Outcome.{RoundsAs, Written}
 use Rattle.ends.specs.declared.rounded_end.RoundedEnd.{RoundedEnd}
 use Rattle.partial_sum.specs.Lying.{Lies}
 use Rattle.partial_sum.specs.Ends.{Meant, lower_number, upper_number}
@@ -22,31 +21,13 @@ pub record Uncertain (u : ℤ → ℤ) (v w : ℤ) : Type 0 where
 
 -- the limbs a are those of the answer, and the only ones for it: all 0, or exactly the digits that the grid has at the answer's exponent
 pub record Certain (u : ℤ → ℤ) (m : Mode) (partial : Bool) (v w : ℤ) (r : RoundedEnd) (a : ℕ) : Type 0 where
-  pub none : r.zero ≡ true → a ≡ 0
-  pub placed : r.zero ≡ false → Placed u r.exponent r.precision a
-  pub rounds : (x : Dyadic) → Lies partial v w x → RoundsTo u m x r.negative a (r.exponent -ℤ pos (32 * limbs_for r.precision)) (direction_sign r.direction)
+  pub limbs : Written u r.extent a
+  pub rounds : (x : Dyadic) → Lies partial v w x → RoundsAs u m x r.negative r.extent a (direction_sign r.direction)
 
 -- what an end is rounded to: nothing exactly if a part is missing that the grid can tell from nothing
 abbrev pub RoundedAt : (ℤ → ℤ) → Mode → Bool → ℤ → ℤ → Option RoundedEnd → ℕ → Type 0
 RoundedAt u m partial v w None a = (partial ≡ true) × Uncertain u v w
 RoundedAt u m partial v w (Some r) a = Certain u m partial v w r a
-
--- two answers are the same but for the limbs; a 0 has no exponent
-pub record SameFields (r q : RoundedEnd) : Type 0 where
-  pub zero : r.zero ≡ q.zero
-  pub negative : r.negative ≡ q.negative
-  pub direction : r.direction ≡ q.direction
-  pub exponent : r.zero ≡ false → r.exponent ≡ q.exponent
-  pub precision : r.zero ≡ false → r.precision ≡ q.precision
-
--- two answers are the same
-pub record SameAnswer (r q : RoundedEnd) (a b : ℕ) : Type 0 where
-  pub zero : r.zero ≡ q.zero
-  pub negative : r.negative ≡ q.negative
-  pub direction : r.direction ≡ q.direction
-  pub exponent : r.zero ≡ false → r.exponent ≡ q.exponent
-  pub precision : r.zero ≡ false → r.precision ≡ q.precision
-  pub limbs : a ≡ b
 
 -- the two ends do not round alike; and the rest is small, and 0 before a gap. There is a next column then
 pub record UndecidedBefore (u : ℤ → ℤ) (m : Mode) (p : PartialSum) (n : ℕ) (d : ℤ) : Type 0 where
@@ -61,9 +42,8 @@ Undecided u m p n (Some d) = UndecidedBefore u m p n d
 -- the two ends round alike, to an answer with the limbs a
 pub record Decided (u : ℤ → ℤ) (m : Mode) (p : PartialSum) (n : ℕ) (below : Option ℤ) (r : RoundedEnd) (a : ℕ) : Type 0 where
   pub alike : Alike (rounded u m (lower_number p n below)) (rounded u m (upper_number p n below))
-  pub none : r.zero ≡ true → a ≡ 0
-  pub placed : r.zero ≡ false → Placed u r.exponent r.precision a
-  pub rounds : RoundsTo u m (lower_number p n below) r.negative a (r.exponent -ℤ pos (32 * limbs_for r.precision)) (direction_sign r.direction)
+  pub limbs : Written u r.extent a
+  pub rounds : RoundsAs u m (lower_number p n below) r.negative r.extent a (direction_sign r.direction)
 
 -- what rounding both ends tells: an answer exactly if they round alike
 abbrev pub BothRounded : (ℤ → ℤ) → Mode → PartialSum → ℕ → Option ℤ → Option RoundedEnd → ℕ → Type 0

@@ -2,48 +2,48 @@
 ghost use Rattle.std.specs.Prelude.{◌≡◌, ℕ, ◌^◌, ◌≤◌, ℤ, unsigned_abs};
 ghost use Rattle.partial_sum.specs.Lying.{Placed};
 
+// A unit of a column in units of the next.
+pub const UNIT: i64 = 0x1_0000_0000;
+
 // An end lies `offset` units of the window's lowest column above the window's number, or, where it is partial, strictly between that and the next unit.
-#[derive(Clone, Copy)]
-pub struct End {
+#[derive(Clone, Copy, PartialEq, Eq, Debug)]
+pub struct WindowEnd {
     pub offset: i64,
     pub partial: bool,
 }
 
-// A unit of a column in units of the next.
-const UNIT: i64 = 0x1_0000_0000;
-
 // So many units of a column, in units of the column above it. For the ends of a partial sum, whose rest is within 2^43.
-pub fn one_column_up(units: i64) -> End
+pub fn one_column_up(units: i64) -> WindowEnd
     requires { unsigned_abs units ≤ 2 ^ 44 }
     ensures placed { Placed result.partial 32 units result.offset }
     ensures small { unsigned_abs result.offset ≤ 2 ^ 44 }
 {
     let offset = units.div_euclid(UNIT);
     if offset * UNIT == units {
-        return End {
+        return WindowEnd {
             offset,
             partial: false,
         };
     }
-    End {
+    WindowEnd {
         offset,
         partial: true,
     }
 }
 
 // So many units of a column, in units of a column two or more above it. They are less than one. For the same ends.
-pub fn far_up(units: i64) -> End
+pub fn far_up(units: i64) -> WindowEnd
     requires { unsigned_abs units ≤ 2 ^ 44 }
     ensures placed { (k : ℕ) → 64 ≤ k → Placed result.partial k units result.offset }
     ensures small { unsigned_abs result.offset ≤ 2 ^ 44 }
 {
     if units == 0 {
-        return End {
+        return WindowEnd {
             offset: 0,
             partial: false,
         };
     }
-    End {
+    WindowEnd {
         offset: if units < 0 { -1 } else { 0 },
         partial: true,
     }

@@ -1,25 +1,24 @@
 // Totals settled as a sign and a magnitude, and rounded.
-ghost use Rattle.std.specs.Prelude.{◌≡◌, ◌+◌, ◌*◌, ◌≤◌, length, ℤ, pos, neg_ℤ, ◌≤ℤ◌, unsigned_abs};
+ghost use Rattle.std.specs.Prelude.{◌≡◌, ◌+◌, ◌*◌, ◌≤◌, length, ℤ, unsigned_abs};
 ghost use Rattle.exact.specs.Integers.{is_negative};
 ghost use Rattle.exact.specs.Limbs.{limbs_value};
 ghost use Rattle.totals.specs.Totals.{totals_value, SmallTotals};
 ghost use Rattle.batch.specs.Term.{column_weight};
 ghost use Rattle.grid.specs.Modes.{mode_of};
 ghost use Rattle.partial_sum.specs.Ends.{Meant};
+ghost use Rattle.partial_sum.specs.Limits.{InReach};
 ghost use Rattle.partial_sum.specs.Rounded.{RoundedAt};
 
-use ends::{Direction, RoundedEnd, round_end};
-use grid::{Grid, Mode};
+use ends::{Direction, End, RoundedEnd, round_end};
+use grid::{Grid, Rounding};
 use limbs::{bit_length, write_power};
 use totals::settle;
 
 // What 0 rounds to.
 const NOTHING: RoundedEnd = RoundedEnd {
-    zero: true,
     negative: false,
-    exponent: 0,
-    precision: 0,
     direction: Direction::Exact,
+    extent: None,
 };
 
 // Is the number negative? Its magnitude is left in the limbs, which are one more than the totals.
@@ -35,27 +34,22 @@ pub fn settle_whole(totals: &[i64], limbs: &mut [u32]) -> bool
     settled.negative
 }
 
-// What the numbers round to that a sign and a magnitude, in units of a column, stand for. Nothing is told where that is not determined.
+// What the numbers round to that an end stands for. Nothing is told where that is not determined.
 pub fn round_settled<G: Grid>(
-    negative: bool,
-    magnitude: &[u32],
-    column: i32,
-    partial: bool,
-    grid: &G,
-    mode: Mode,
+    end: End,
+    rounding: Rounding<G>,
     answer: &mut [u32],
 ) -> Option<RoundedEnd>
-    requires magnitude { length magnitude.now ≤ 1048576 }
-    requires from { neg_ℤ (pos 60000000) ≤ℤ column }
-    requires upto { column ≤ℤ pos 60000000 }
+    requires magnitude { length end.whole.now ≤ 1048576 }
+    requires reach { InReach end.column }
     requires few { length answer.old ≤ 1048576 }
-    requires room { G.Grid.widest grid.now ≤ 32 * length answer.old }
-    ensures { (v : ℤ) → Meant negative partial (limbs_value magnitude.now) v → RoundedAt (G.Grid.spacing grid.now) (mode_of mode) partial v (column_weight column) result (limbs_value answer.new) }
+    requires room { G.Grid.widest rounding.grid.now ≤ 32 * length answer.old }
+    ensures { (v : ℤ) → Meant end.entry.negative end.entry.partial (limbs_value end.entry.whole.now) v → RoundedAt (G.Grid.spacing rounding.entry.grid.now) (mode_of rounding.entry.mode) end.entry.partial v (column_weight end.entry.column) result (limbs_value answer.new) }
 {
-    let bits = bit_length(magnitude);
-    if !partial && bits == 0 {
+    let bits = bit_length(end.whole);
+    if !end.partial && bits == 0 {
         write_power(0, answer);
         return Some(NOTHING);
     }
-    round_end(negative, magnitude, column, partial, grid, mode, answer)
+    round_end(end, rounding, answer)
 }

@@ -1,24 +1,13 @@
 -- Which kinds of terms count under the marks of a sheet, and what they make of a sum.
 use Rattle.std.specs.Prelude.{ℕ, suc, Bool, true, false, cond, ◌&&◌, ◌||◌, List, [], ◌∷◌, map, ◌==◌}
 use Rattle.batch.specs.Term.{Term}
-use Rattle.batch.specs.TermKinds.{kind_of, kind_number}
+use Rattle.batch.specs.TermKinds.{kind_of, kind_number, turned_kind}
 use Rattle.batch.specs.declared.kind.Kind.{Kind}
 use Rattle.batch.specs.declared.kind.Kind.TheVariants.{NotANumber, PositiveInfinity, NegativeInfinity, PositiveZero, NegativeZero, Positive, Negative, Absent}
 use Rattle.sheet.specs.declared.mark.Mark.{Mark}
 use Rattle.sheet.specs.declared.mark.Mark.TheVariants.{Out, In, Turned}
 use Rattle.survey.specs.declared.class.SumClass.{SumClass}
 use Rattle.survey.specs.declared.class.SumClass.TheVariants.{NotANumber as NanSum, Infinite, Number}
-
--- the kind with the other sign
-abbrev pub turned_kind : Kind → Kind
-turned_kind NotANumber = NotANumber
-turned_kind PositiveInfinity = NegativeInfinity
-turned_kind NegativeInfinity = PositiveInfinity
-turned_kind PositiveZero = NegativeZero
-turned_kind NegativeZero = PositiveZero
-turned_kind Positive = Negative
-turned_kind Negative = Positive
-turned_kind Absent = Absent
 
 -- the kind that a term counts as under a mark: none where it is out
 abbrev pub counted_kind : Mark → Kind → Kind

@@ -3,7 +3,9 @@ ghost use Rattle.std.specs.Prelude.{◌≡◌, length};
 
 mod survey;
 
-// Which kinds have been found, each at its number.
+pub use survey::counted_kind;
+
+// Which kinds have been found, each at its number: a set in fixed memory.
 #[derive(Clone, Copy)]
 pub struct KindsCounted {
     present: [bool; 8],

@@ -6,5 +6,5 @@ mod kinds;
 mod places;
 
 pub use class::SumClass;
-pub use kinds::KindsCounted;
+pub use kinds::{KindsCounted, counted_kind};
 pub use places::lowest_marked_from;

@@ -1,8 +1,10 @@
 // Columns are absorbed from the top down, each column's total into the window or, below a full window, into the rest.
 ghost use Rattle.std.specs.Prelude.{◌≡◌, ◌^◌, ◌<◌, ◌≤◌, true, false, ℤ, pos, ◌+ℤ◌, ◌-ℤ◌, ◌<ℤ◌, unsigned_abs};
 ghost use Rattle.exact.specs.Integers.{scale};
-ghost use Rattle.partial_sum.specs.Holding.{held, drop_between, most_total, Sound, Uncarried, Absorbs, Folds, Appends, Extended, Absorbed};
+ghost use Rattle.partial_sum.specs.Limits.{drop_between, most_total};
+ghost use Rattle.partial_sum.specs.Holding.{held, Absorbs, Folds, Appends, Lowers, Absorbed};
 
+use crate::end::UNIT;
 use crate::sum::PartialSum;
 
 // The slot of the head.
@@ -11,10 +13,7 @@ const HEAD: usize = 129;
 // A head below this takes a total in: times 2^32 it is still below 2^52.
 const SMALL_HEAD: i64 = 0x10_0000;
 
-// A unit of a column in units of the next.
-const UNIT: i64 = 0x1_0000_0000;
-
-const HALF_UNIT: i64 = 0x8000_0000;
+const HALF_UNIT: i64 = UNIT / 2;
 
 // A total, and the total of the column below it.
 fn joined(high: i64, low: i64) -> i64
@@ -50,7 +49,6 @@ impl PartialSum {
         ensures held { held result ≡ total }
         ensures column { result.column ≡ column }
         ensures lowest { result.lowest ≡ column }
-        ensures sound { Sound result }
     {
         let mut totals = [0; 130];
         totals[HEAD] = total;
@@ -67,15 +65,13 @@ impl PartialSum {
     // more than the 1,024 terms that reach below are left, and nothing before a gap.
     pub fn absorb(&mut self, total: i64, column: i32)
         requires { Absorbs self.old total column }
-        ensures absorbed { Absorbed self.old self.new total column }
-        ensures sound { Sound self.new }
+        ensures { Absorbed self.old self.new total column }
     {
         if self.folds_into_head(column) {
             self.fold(total, column);
         } else {
             self.append(total, column);
         }
-        self.carry();
     }
 
     // Is the head alone, and does it take the total of this column in? Columns that cancel take no room so.
@@ -103,51 +99,43 @@ impl PartialSum {
     fn fold(&mut self, total: i64, column: i32)
         requires absorbs { Absorbs self.old total column }
         requires folds { Folds self.old column }
-        ensures absorbed { Absorbed self.old self.new total column }
-        ensures uncarried { Uncarried self.new }
+        ensures { Absorbed self.old self.new total column }
     {
         self.totals[HEAD] = joined(self.totals[HEAD], total);
         self.lowest = column;
         self.column = column;
     }
 
-    // The slots that are not used hold zeros, so that a gap takes no work.
+    // The slots that are not used hold zeros, so that a gap takes no work. Right below the window, what the rest has of whole units goes
+    // into the window's lowest total: half a unit at most stays.
     fn append(&mut self, total: i64, column: i32)
         requires absorbs { Absorbs self.old total column }
         requires appends { Appends self.old column }
-        ensures absorbed { Absorbed self.old self.new total column }
-        ensures uncarried { Uncarried self.new }
+        ensures { Absorbed self.old self.new total column }
     {
-        self.extend_to(column);
+        let steps = self.steps_down_to(column);
+        self.from -= steps;
+        self.lowest -= steps as i32;
         self.column = column;
         if self.lowest == column {
             self.totals[self.from] = total;
-        } else {
-            self.rest = joined(self.rest, total);
+            return;
         }
+        let rest = joined(self.rest, total);
+        if column + 1 < self.lowest {
+            self.rest = rest;
+            return;
+        }
+        let units = nearest_units(rest);
+        self.totals[0] += units;
+        self.rest = without_units(rest, units);
     }
 
-    fn extend_to(&mut self, column: i32)
-        requires { column <ℤ self.old.lowest }
-        ensures { Extended self.old self.new column }
+    // How many columns further down the window goes: to that column, or as far as there is room.
+    fn steps_down_to(&self, column: i32) -> usize
+        requires { column <ℤ self.now.lowest }
+        ensures { Lowers self.now result column }
     {
-        let steps = self.from.min(self.lowest.abs_diff(column) as usize);
-        self.from -= steps;
-        self.lowest -= steps as i32;
-    }
-
-    // Right below the window, what the rest has of whole units goes into the window's lowest total: half a unit at most stays.
-    fn carry(&mut self)
-        requires { Uncarried self.old }
-        ensures held { held self.new ≡ held self.old }
-        ensures column { self.new.column ≡ self.old.column }
-        ensures lowest { self.new.lowest ≡ self.old.lowest }
-        ensures sound { Sound self.new }
-    {
-        if self.column < self.lowest && self.column + 1 == self.lowest {
-            let units = nearest_units(self.rest);
-            self.rest = without_units(self.rest, units);
-            self.totals[0] += units;
-        }
+        self.from.min(self.lowest.abs_diff(column) as usize)
     }
 }

@@ -1,26 +1,26 @@
 // Rounding the ends of a partial sum.
-ghost use Rattle.std.specs.Prelude.{◌≡◌, ℕ, ◌+◌, ◌*◌, ◌^◌, ◌≤◌, true, length, ℤ, pos, ◌+ℤ◌, neg_ℤ, ◌≤ℤ◌, unsigned_abs};
+ghost use Rattle.std.specs.Prelude.{◌≡◌, ℕ, ◌+◌, ◌*◌, ◌^◌, ◌<◌, ◌≤◌, true, length, slice_index, ℤ, pos, ◌+ℤ◌, ◌≤ℤ◌, unsigned_abs};
 ghost use Rattle.exact.specs.Integers.{is_negative};
 ghost use Rattle.exact.specs.Dyadic.{dyadic, exponent};
 ghost use Rattle.exact.specs.Limbs.{limbs_value};
-ghost use Rattle.partial_sum.specs.Holding.{Sound, window};
+ghost use Rattle.partial_sum.specs.Limits.{InReach};
+ghost use Rattle.partial_sum.specs.Holding.{window};
 ghost use Rattle.batch.specs.Term.{column_weight};
 ghost use Rattle.grid.specs.Modes.{mode_of};
 ghost use Rattle.grid.specs.Rounding.{OnGrid};
 ghost use Rattle.partial_sum.specs.Ends.{Meant, Reached, number_held};
 ghost use Rattle.partial_sum.specs.Rounded.{RoundedAt, BothRounded};
 
-use crate::comparing::{same_end, same_fields, same_limbs};
-use crate::end::End;
+use crate::end::WindowEnd;
 use crate::settling::{round_settled, settle_whole};
 use crate::sum::PartialSum;
-use ends::RoundedEnd;
-use grid::{Grid, Mode};
+use crate::sum::both_ends::Below;
+use ends::{End, RoundedEnd};
+use grid::{Grid, Rounding};
 
 impl PartialSum {
     // The window and so many units more: is it negative? Its magnitude is left in the limbs.
     fn settle_with(&self, offset: i64, limbs: &mut [u32]) -> bool
-        requires sound { Sound self.now }
         requires few { unsigned_abs offset ≤ 2 ^ 45 }
         requires room { length limbs.old + self.now.from ≡ 131 }
         ensures negative { result ≡ is_negative (window self.now +ℤ offset) }
@@ -32,8 +32,7 @@ impl PartialSum {
     }
 
     // The sign and the magnitude of an end.
-    fn settle_end(&self, end: End, limbs: &mut [u32]) -> bool
-        requires sound { Sound self.now }
+    fn settle_end(&self, end: WindowEnd, limbs: &mut [u32]) -> bool
         requires few { unsigned_abs end.offset ≤ 2 ^ 44 }
         requires room { length limbs.old + self.now.from ≡ 131 }
         ensures { Meant result end.partial (limbs_value limbs.new) (window self.now +ℤ end.offset) }
@@ -46,41 +45,36 @@ impl PartialSum {
     }
 
     // What the numbers at an end round to, with the limbs of the answer; nothing where that is not determined.
+    // That limbs are below 2^32 is said, since a caller's proof knows it of no array that is used no more.
     fn round_at<G: Grid>(
         &self,
-        end: End,
-        grid: &G,
-        mode: Mode,
+        end: WindowEnd,
+        rounding: Rounding<G>,
         answer: &mut [u32],
     ) -> Option<RoundedEnd>
-        requires sound { Sound self.now }
         requires offset { unsigned_abs end.offset ≤ 2 ^ 44 }
-        requires from { neg_ℤ (pos 60000000) ≤ℤ self.now.lowest }
-        requires upto { self.now.lowest ≤ℤ pos 60000000 }
+        requires reach { InReach self.now.lowest }
         requires few { length answer.old ≤ 1048576 }
-        requires room { G.Grid.widest grid.now ≤ 32 * length answer.old }
-        ensures { RoundedAt (G.Grid.spacing grid.now) (mode_of mode) end.partial (window self.now +ℤ end.offset) (column_weight self.now.lowest) result (limbs_value answer.new) }
+        requires room { G.Grid.widest rounding.grid.now ≤ 32 * length answer.old }
+        ensures rounded { RoundedAt (G.Grid.spacing rounding.entry.grid.now) (mode_of rounding.entry.mode) end.partial (window self.now +ℤ end.offset) (column_weight self.now.lowest) result (limbs_value answer.new) }
+        ensures limbs { (k : ℕ) → slice_index answer.new k < 2 ^ 32 }
     {
         let mut limbs = [0u32; 131];
         let magnitude = &mut limbs[self.from..];
         let negative = self.settle_end(end, magnitude);
-        round_settled(
+        let settled = End {
             negative,
-            magnitude,
-            self.lowest,
-            end.partial,
-            grid,
-            mode,
-            answer,
-        )
+            whole: magnitude,
+            column: self.lowest,
+            partial: end.partial,
+        };
+        round_settled(settled, rounding, answer)
     }
 
     // The exponent of the window's number is at most this: 32 bits for each total, and 21 more for the head, which is below 2^53 together
     // with what the totals below it come to.
     fn top_exponent(&self) -> i32
-        requires sound { Sound self.now }
-        requires from { neg_ℤ (pos 60000000) ≤ℤ self.now.lowest }
-        requires upto { self.now.lowest ≤ℤ pos 60000000 }
+        requires { InReach self.now.lowest }
         ensures { exponent (dyadic (window self.now) (column_weight self.now.lowest)) ≤ℤ result }
     {
         let length = (130 - self.from) as i32;
@@ -90,9 +84,7 @@ impl PartialSum {
     // Does the window hold all of the sum so far, and is the grid's spacing there no more than a unit of the window? Then the sum is a number
     // of the grid. It lies strictly between its ends where there is a next column, and keeps them from rounding alike.
     fn too_short_to_decide<G: Grid>(&self, grid: &G) -> bool
-        requires sound { Sound self.now }
-        requires from { neg_ℤ (pos 60000000) ≤ℤ self.now.lowest }
-        requires upto { self.now.lowest ≤ℤ pos 60000000 }
+        requires { InReach self.now.lowest }
         ensures whole { result ≡ true → self.now.rest ≡ pos 0 }
         ensures member { result ≡ true → OnGrid (G.Grid.spacing grid.now) (number_held self.now) }
     {
@@ -100,41 +92,30 @@ impl PartialSum {
     }
 
     // Rounds both ends: an answer exactly if they round alike. The limbs are 128, as many as the widest grid asks for.
-    // Who asks knows that the columns lie within 60,000,000 of 0, since no term's top weight is above 1,000,000,000.
+    // Who asks knows that the columns are in reach, since no term's top weight is above 1,000,000,000.
     // For a wide answer the window is too short at most columns, and that is found without settling it.
     pub fn round_ends<G: Grid>(
         &self,
-        reaching: u32,
-        below: Option<i32>,
-        grid: &G,
-        mode: Mode,
+        below: Below,
+        rounding: Rounding<G>,
         answer: &mut [u32],
     ) -> Option<RoundedEnd>
-        requires sound { Sound self.now }
-        requires reached { Reached self.now reaching below }
-        requires from { neg_ℤ (pos 60000000) ≤ℤ self.now.lowest }
-        requires upto { self.now.lowest ≤ℤ pos 60000000 }
+        requires reached { Reached self.now below.reaching below.column }
+        requires reach { InReach self.now.lowest }
         requires room { length answer.old ≡ 128 }
-        ensures { BothRounded (G.Grid.spacing grid.now) (mode_of mode) self.now reaching below result (limbs_value answer.new) }
+        ensures { BothRounded (G.Grid.spacing rounding.entry.grid.now) (mode_of rounding.entry.mode) self.now below.reaching below.column result (limbs_value answer.new) }
     {
-        if below.is_some() && self.too_short_to_decide(grid) {
+        if below.column.is_some() && self.too_short_to_decide(rounding.grid) {
             return None;
         }
-        let lower = self.lower_end(reaching, below);
-        let upper = self.upper_end(reaching, below);
-        let first = match self.round_at(lower, grid, mode, answer) {
-            Some(first) => first,
-            None => return None,
-        };
-        if same_end(lower, upper) {
+        let (lower, upper) = self.ends(below);
+        let first = self.round_at(lower, rounding, answer)?;
+        if lower == upper {
             return Some(first);
         }
         let mut other = [0u32; 128];
-        let second = match self.round_at(upper, grid, mode, &mut other) {
-            Some(second) => second,
-            None => return None,
-        };
-        if same_fields(first, second) && same_limbs(answer, &other) {
+        let second = self.round_at(upper, rounding, &mut other)?;
+        if first == second && answer[..] == other[..] {
             Some(first)
         } else {
             None

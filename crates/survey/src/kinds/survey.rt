@@ -4,7 +4,7 @@ ghost use Rattle.batch.specs.TermKinds.{kind_number};
 ghost use Rattle.batch.specs.declared.kind.Kind.{Kind as KindOf};
 ghost use Rattle.sheet.specs.Shown.{shown};
 ghost use Rattle.survey.specs.Found.{found};
-ghost use Rattle.survey.specs.Kinds.{counted_kind, counted_kinds, turned_kind, has, class_found, regular_found, zero_negative};
+ghost use Rattle.survey.specs.Kinds.{counted_kind, counted_kinds, has, class_found, regular_found, zero_negative};
 
 use super::KindsCounted;
 use crate::class::SumClass;
@@ -12,28 +12,14 @@ use batch::{Batch, Kind};
 use sheet::mark::Mark;
 use sheet::marks::Marks;
 
-fn turned_kind(kind: Kind) -> Kind
-    ensures { result ≡ turned_kind kind }
-{
-    match kind {
-        Kind::PositiveInfinity => Kind::NegativeInfinity,
-        Kind::NegativeInfinity => Kind::PositiveInfinity,
-        Kind::PositiveZero => Kind::NegativeZero,
-        Kind::NegativeZero => Kind::PositiveZero,
-        Kind::Positive => Kind::Negative,
-        Kind::Negative => Kind::Positive,
-        Kind::NotANumber => Kind::NotANumber,
-        Kind::Absent => Kind::Absent,
-    }
-}
-
-fn counted_kind(mark: Mark, kind: Kind) -> Kind
+// The kind that a term counts as under a mark.
+pub fn counted_kind(mark: Mark, kind: Kind) -> Kind
     ensures { result ≡ counted_kind mark kind }
 {
     match mark {
         Mark::Out => Kind::Absent,
         Mark::In => kind,
-        Mark::Turned => turned_kind(kind),
+        Mark::Turned => kind.turned(),
     }
 }
 

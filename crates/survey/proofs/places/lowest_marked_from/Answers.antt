@@ -1,20 +1,21 @@
-use Rattle.std.proofs.Common.{sym, refl, ap, ◌∙◌}
+-- The marks from the number on are searched as the sheet's places are.
+use Rattle.std.proofs.Common.{sym, ap, ◌∙◌}
 use Rattle.sheet.specs.Shown.{shown}
-use Rattle.survey.specs.Places.{is_marked}
-use Rattle.survey.proofs.Marked.{marked_here, marked_later, marked_nowhere}
+use Rattle.survey.specs.Places.{first_marked}
+use Rattle.survey.proofs.Marked.{place_from, searched, none_marked}
 use Rattle.survey.proofs.places.lowest_marked_from.Goals as goal
 
-pub loop-place-init : goal.loop-place-init
-loop-place-init c = refl
+pub returns-then-not-any_marked : goal.returns-then-not-any_marked
+returns-then-not-any_marked c =
+    none_marked (shown c.args.marks.now) c.args.from c.from-left.result.now c.from-left.ensures.in_order (sym c.any_marked.ensures ∙ c.if-not-any_marked.true)
+    ∙ ap (first_marked (shown c.args.marks.now) c.args.from) c.from-left.ensures.all
 
-pub returns-then-is_marked : goal.returns-then-is_marked
-returns-then-is_marked c =
-    sym (c.loop-place.invariant ∙ marked_here (shown c.args.marks.now) c.loop-place.place c.loop-place-test.true
-    (ap is_marked (sym c.at.ensures) ∙ sym c.if-is_marked.ensures))
-
-pub loop-place-preserved : goal.loop-place-preserved
-loop-place-preserved c =
-    c.loop-place.invariant ∙ marked_later (shown c.args.marks.now) c.loop-place.place c.loop-place-test.true (ap is_marked (sym c.at.ensures) ∙ sym c.if-is_marked.ensures)
+pub returns-in_err-at : goal.returns-in_err-at
+returns-in_err-at c =
+    c.from_residual.ensures ∙ ap (place_from c.args.from) c.in_err-at.ensures.first ∙ searched (shown c.args.marks.now) c.args.from c.from-left.result.now c.from-left.ensures.in_order
+    ∙ ap (first_marked (shown c.args.marks.now) c.args.from) c.from-left.ensures.all
 
 pub returns : goal.returns
-returns c = sym (c.loop-place.invariant ∙ marked_nowhere (shown c.args.marks.now) c.loop-place.place c.loop-place-test.false)
+returns c =
+    ap (place_from c.args.from) c.in_ok-at.ensures.first ∙ searched (shown c.args.marks.now) c.args.from c.from-left.result.now c.from-left.ensures.in_order
+    ∙ ap (first_marked (shown c.args.marks.now) c.args.from) c.from-left.ensures.all

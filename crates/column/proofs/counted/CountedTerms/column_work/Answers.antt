@@ -1,46 +1,58 @@
--- One part more, that goes on below or not; no sum overflows; at the end all parts are gathered.
-use Rattle.std.proofs.Common.{◌≡◌, ◌+◌, Bool, cond, sym, ap, ◌∙◌, subst, arith, w32, to_z, of_z}
+-- One term more, that goes on below or not; no sum overflows; at the end all terms are gathered.
+use Rattle.std.proofs.Common.{◌≡◌, ◌+◌, Bool, cond, false, get_or, refl, sym, ap, ◌∙◌, subst, arith, w32, to_z, of_z}
 use Rattle.std.proofs.lemmas.Int.{to_z-of_z}
+use Rattle.column.specs.declared.term.CountedTerm.{CountedTerm}
 use Rattle.column.specs.CountedTerms.{listed_parts}
 use Rattle.column.specs.Claims.{StartsWith, GoesOnWith}
 use Rattle.column.proofs.Laws.{sum_starts, sum_goes_on}
-use Rattle.column.proofs.Gathering.{listed_none, listed_more, listed_all, sum_fits, count_small}
+use Rattle.column.proofs.Gathering.{gathered_small, gathered_more, gathered_all, sum_fits}
 use Rattle.column.proofs.counted.CountedTerms.column_work.Goals as goal
+use Rattle.column.proofs.counted.CountedTerms.column_work.Goals.{then-reaches_below, else-reaches_below}
 
-pub loop-i-init : goal.loop-i-init
-loop-i-init g c = listed_none (g.B.Batch.terms c.args.batch.now) c.args.self.now (to_z w32 (of_z w32 c.args.column))
+-- what the list has past its end
+abbrev nothing : CountedTerm
+nothing = record { place = 0; negative = false }
+
+pub loop-term-init : goal.loop-term-init
+loop-term-init g c = record { total = refl; below = refl }
 
 pub overflow_add-total : goal.overflow_add-total
 overflow_add-total g c =
-    sum_fits (g.B.Batch.terms c.args.batch.now) c.args.self.now (to_z w32 (of_z w32 c.args.column)) c.loop-i.i _ c.loop-i.below c.loop-i.invariant
-    c.signed_digit-total.result c.signed_digit-total.ensures
+    sum_fits (g.B.Batch.terms c.args.self.now.batch.now) c.deref-term-items.result.now _ c.loop-term.term-index _ _ c.loop-term.invariant
+    c.deref-term-items.ensures.1 c.loop-term.auto.term-index-end (get_or c.deref-term-items.result.now c.loop-term.term-index nothing) c.signed_digit-total.result c.signed_digit-total.ensures
 
 pub overflow_add-below : goal.overflow_add-below
-overflow_add-below g c = let s = count_small (g.B.Batch.terms c.args.batch.now) c.args.self.now (to_z w32 (of_z w32 c.args.column)) c.loop-i.i _ c.loop-i.below c.loop-i.invariant in omega (arith, s)
+overflow_add-below g c =
+    let s = gathered_small (g.B.Batch.terms c.args.self.now.batch.now) c.deref-term-items.result.now _ c.loop-term.term-index _ _ c.loop-term.invariant
+    c.deref-term-items.ensures.1 c.loop-term.auto.term-index-end in
+    omega (arith, s.1)
 
-pub loop-i-preserved-then-reaches_below : goal.loop-i-preserved-then-reaches_below
-loop-i-preserved-then-reaches_below g c =
-    listed_more (g.B.Batch.terms c.args.batch.now) c.args.self.now (to_z w32 (of_z w32 c.args.column)) c.loop-i.i _ c.loop-i.below c.loop-i.invariant
-    c.signed_digit-total.result c.reaches_below.result _ c.loop-i-test.true c.loop-i.auto.i c.signed_digit-total.ensures c.reaches_below.ensures
-    (ap (λ (b : Bool). c.loop-i.below + cond b 1 0) (sym c.if-reaches_below.true))
-
-pub loop-i-preserved : goal.loop-i-preserved
-loop-i-preserved g c =
-    let none : c.loop-i.below ≡ c.loop-i.below + 0 = omega arith in
-    listed_more (g.B.Batch.terms c.args.batch.now) c.args.self.now (to_z w32 (of_z w32 c.args.column)) c.loop-i.i _ c.loop-i.below c.loop-i.invariant
-    c.signed_digit-total.result c.reaches_below.result _ c.loop-i-test.true c.loop-i.auto.i c.signed_digit-total.ensures c.reaches_below.ensures
-    (none ∙ ap (λ (b : Bool). c.loop-i.below + cond b 1 0) (sym c.if-reaches_below.false))
+pub loop-term-preserved : goal.loop-term-preserved
+loop-term-preserved g c =
+    let more = gathered_more (g.B.Batch.terms c.args.self.now.batch.now) c.deref-term-items.result.now _ c.loop-term.term-index _ _ c.loop-term.invariant
+    c.deref-term-items.ensures.1 c.loop-term.auto.term-index-end _ c.loop-term-test.true c.signed_digit-total.result c.reaches_below.result c.if-reaches_below.below
+    c.signed_digit-total.ensures c.reaches_below.ensures in
+    elim c.if-reaches_below.branch [
+      | then-reaches_below w ↦ more (w.below-is ∙ ap (λ (b : Bool). c.loop-term.below + cond b 1 0) (sym w.if-reaches_below.true))
+      | else-reaches_below w ↦
+          let none : c.loop-term.below ≡ c.loop-term.below + 0 = omega arith in
+          more (w.below-is ∙ none ∙ ap (λ (b : Bool). c.loop-term.below + cond b 1 0) (sym w.if-reaches_below.false))
+    ]
 
 pub returns : goal.returns
 returns g c =
-    let ts = g.B.Batch.terms c.args.batch.now in
-    let cs = c.args.self.now in
+    let ts = g.B.Batch.terms c.args.self.now.batch.now in
+    let xs = c.deref-term-items.result.now in
+    let ps = listed_parts c.args.self.now in
     let k = c.args.column in
-    let w = listed_all ts cs k (to_z w32 (of_z w32 k)) _ c.loop-i.i c.loop-i.below c.loop-i-test.false (to_z-of_z w32 k c.ranges.column) c.loop-i.invariant in
+    let few = c.deref-term-items.ensures.1 in
+    let within = c.loop-term.auto.term-index-end in
+    let w = gathered_all ts xs (to_z w32 (of_z w32 k)) c.loop-term.term-index _ c.loop-term.below c.loop-term.invariant few within c.args.self.now.terms.items k
+    c.loop-term-test.false c.deref-term-items.ensures.0 (to_z-of_z w32 k c.ranges.column) in
     record {
-      total = w.0.total;
-      below = w.0.below;
-      small = w.1;
-      starts = subst (StartsWith (listed_parts ts cs) k) (sym w.0.total) (sum_starts (listed_parts ts cs) k);
-      goes_on = subst (GoesOnWith (listed_parts ts cs) k) (sym w.0.total) (sum_goes_on (listed_parts ts cs) k);
+      total = w.total;
+      below = w.below;
+      small = (gathered_small ts xs (to_z w32 (of_z w32 k)) c.loop-term.term-index _ c.loop-term.below c.loop-term.invariant few within).0;
+      starts = subst (StartsWith ps k) (sym w.total) (sum_starts ps k);
+      goes_on = subst (GoesOnWith ps k) (sym w.total) (sum_goes_on ps k);
     }

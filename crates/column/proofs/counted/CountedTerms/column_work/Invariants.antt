@@ -1,7 +1,8 @@
--- What is gathered after some parts.
-use Rattle.column.specs.CountedTerms.{listed_parts}
-use Rattle.column.specs.Gathering.{Gathered}
+-- What is gathered after some terms.
+use Rattle.std.proofs.Common.{take}
+use Rattle.column.specs.Listed.{parts_listed}
+use Rattle.column.proofs.Gathering.{Gathered}
 use Rattle.column.proofs.counted.CountedTerms.column_work.Given as goal
 
-abbrev pub invariant-loop-i : goal.invariant-loop-i
-invariant-loop-i g l = Gathered (listed_parts (g.B.Batch.terms l.batch) l.self) l.column l.i l.total l.below
+abbrev pub invariant-loop-term : goal.invariant-loop-term
+invariant-loop-term g l = Gathered (parts_listed (g.B.Batch.terms l.self.batch.now) (take l.term-index l.term-items)) l.column l.total l.below

@@ -4,4 +4,4 @@ use Rattle.column.proofs.ListedDescent.{first_of_all}
 use Rattle.column.proofs.counted.CountedTerms.first_column.Goals as goal
 
 pub returns : goal.returns
-returns g c = c.next_column.ensures.next ∙ first_of_all (g.B.Batch.terms c.args.batch.now) (g.B.Batch.limited c.args.batch.now) c.args.self.now
+returns g c = c.next_column.ensures.next ∙ first_of_all (g.B.Batch.terms c.args.self.now.batch.now) (g.B.Batch.limited c.args.self.now.batch.now) c.args.self.now.terms.items

@@ -1,27 +1,23 @@
--- One part more; at the end the highest column of all below the given one.
-use Rattle.std.proofs.Common.{◌≡◌, ◌∙◌, arith, w32, to_z, of_z}
-use borrow.Author.Differences.{ints}
-use Rattle.std.proofs.lemmas.Int.{to_z-of_z}
+-- The highest of the terms' highest columns is the highest of all below the given one.
+use Rattle.std.proofs.Common.{rules}
+use borrow.Author.Tests.{tests}
+use Rattle.std.proofs.lemmas.Iterator.{YieldsList-from_slice}
+use Rattle.std.proofs.lemmas.Iterator.Consumers.{YieldsList-from_filter_map, reduce_from_yields_List}
+use Rattle.column.specs.Listed.{highest_occupied}
 use Rattle.column.specs.CountedTerms.{listed_parts}
-use Rattle.column.proofs.Descent.{first_below_is}
-use Rattle.column.proofs.ListedDescent.{descent_none, descent_more, descent_all}
+use Rattle.column.specs.Walk.{Highest}
+use Rattle.column.specs.Columns.{Occupied}
+use Rattle.column.proofs.Descent.{picked, first_below_is}
+use Rattle.column.proofs.ListedDescent.{highest_of_all}
 use Rattle.column.proofs.counted.CountedTerms.next_column.Goals as goal
-
-pub loop-i-init : goal.loop-i-init
-loop-i-init g c = descent_none (g.B.Batch.terms c.args.batch.now) c.args.self.now (to_z w32 (of_z w32 c.args.below))
-
-pub loop-i-preserved : goal.loop-i-preserved
-loop-i-preserved g c =
-    let low : to_z w32 (of_z w32 c.low.result) ≡ c.low.result = omega (arith, ints, c.low.type_inv) in
-    let top : to_z w32 (of_z w32 c.top.result) ≡ c.top.result = omega (arith, ints, c.top.type_inv) in
-    descent_more (g.B.Batch.terms c.args.batch.now) c.args.self.now (to_z w32 (of_z w32 c.args.below)) c.loop-i.i (to_z w32 (of_z w32 c.low.result))
-    (to_z w32 (of_z w32 c.top.result)) c.highest_spanned-spanned.result c.loop-i.highest c.higher_column-highest.result c.loop-i-test.true c.loop-i.auto.i
-    (low ∙ c.low.ensures) (top ∙ c.top.ensures) c.highest_spanned-spanned.ensures c.loop-i.invariant c.higher_column-highest.ensures
 
 pub returns : goal.returns
 returns g c =
-    let ts = g.B.Batch.terms c.args.batch.now in
-    let cs = c.args.self.now in
+    let ts = g.B.Batch.terms c.args.self.now.batch.now in
+    let xs = c.args.self.now.terms.items in
     let b = c.args.below in
-    let found = descent_all ts cs (to_z w32 (of_z w32 b)) b c.loop-i.i c.loop-i.highest c.loop-i-test.false (to_z-of_z w32 b c.ranges.below) c.loop-i.invariant in
-    record { next = first_below_is b (listed_parts ts cs) c.loop-i.highest found; highest = found }
+    let found = reduce_from_yields_List picked c.filter_map.result c.max.result c.max.ensures.ran
+    (YieldsList-from_filter_map {s = c.filter_map.result} _ (highest_occupied ts b) (YieldsList-from_slice {s = c.filter_map.result.iter} xs cc) c.filter_map.ensures.closure
+    (λ x r q k. search (rules, tests))) in
+    let all : Highest b (Occupied (listed_parts c.args.self.now)) c.max.result = rw found (highest_of_all ts b xs) in
+    record { next = first_below_is b (listed_parts c.args.self.now) c.max.result all; highest = all }

@@ -1,71 +1,82 @@
-use Rattle.std.proofs.Common.{◌≤◌, sym, arith}
+use Rattle.std.proofs.Common.{◌≡◌, ℕ, ◌^◌, ◌<◌, get_or, Option, sym, ap, ◌∙◌, subst, arith, rules}
+use Rattle.std.proofs.lemmas.Slice.Eq.{slice_eq-Decides}
+use Rattle.std.proofs.lemmas.Bool.Decides.{Decides-eqb}
 use Rattle.exact.specs.Limbs.{limbs_value}
 use Rattle.grid.specs.Modes.{mode_of}
-use Rattle.partial_sum.specs.Rounded.{SameFields, SameAnswer}
+use Rattle.ends.specs.declared.rounded_end.RoundedEnd.{RoundedEnd}
+use Rattle.partial_sum.specs.Rounded.{BothRounded}
+use Rattle.partial_sum.proofs.LimbLists.{limbs_same}
+use Rattle.partial_sum.proofs.Unique.{not_both}
+use Rattle.partial_sum.proofs.Same.{same_when, when_same, same_end}
 use Rattle.partial_sum.proofs.Assembling.{undecided_lower, undecided_upper, decided, decided_at_once, undecided}
 use Rattle.partial_sum.proofs.Shortness.{undecided_yet}
 use Rattle.partial_sum.proofs.sum.PartialSum.round_ends.Goals as goal
-use Rattle.partial_sum.proofs.sum.PartialSum.round_ends.Goals.{else-same_fields-via-then-same_fields+else-same_limbs, else-same_fields-via-else-same_fields}
+use Rattle.partial_sum.proofs.sum.PartialSum.round_ends.Goals.{else-eq-2-via-then-eq-2+else-eq-3, else-eq-2-via-else-eq-2}
 
 pub returns-then-too_short_to_decide : goal.returns-then-too_short_to_decide
 returns-then-too_short_to_decide g c =
-    let grid = c.args.grid.now in
+    let grid = c.args.rounding.grid.now in
     let short = c.if-too_short_to_decide.true in
-    undecided_yet (g.G.Grid.spacing grid) (g.G.Grid.widest grid) (g.G.Grid.lawful grid) (mode_of c.args.mode) c.args.self.now c.args.reaching c.args.below c.requires.reached
+    undecided_yet (g.G.Grid.spacing grid) (g.G.Grid.widest grid) (g.G.Grid.lawful grid) (mode_of c.args.rounding.mode) c.args.self.now c.args.below.reaching c.args.below.column c.requires.reached
     (sym c.if-is_some.ensures) (c.too_short_to_decide.ensures.whole short) (c.too_short_to_decide.ensures.member short)
 
-pub round_at-requires : goal.round_at-requires
-round_at-requires g c =
-    let grid = c.args.grid.now in
-    let lawful = g.G.Grid.lawful grid in
-    let wide : g.G.Grid.widest grid ≤ 4096 = lawful.width_high in
-    record { sound = c.requires.sound; offset = c.lower_end-lower.ensures.small; from = c.requires.from; upto = c.requires.upto; few = omega arith; room = omega (arith, c.requires.room) }
+pub round_at-requires-clause-room : goal.round_at-requires-clause-room
+round_at-requires-clause-room g c =
+    let lawful = g.G.Grid.lawful c.args.rounding.grid.now in
+    omega (arith, c.requires.room, lawful.width_high)
 
-pub returns-in-None : goal.returns-in-None
-returns-in-None g c =
-    let grid = c.args.grid.now in
-    undecided_lower (g.G.Grid.spacing grid) (g.G.Grid.widest grid) (g.G.Grid.lawful grid) (mode_of c.args.mode) c.args.self.now c.requires.sound c.requires.from c.requires.upto c.args.reaching
-    c.args.below c.requires.reached c.lower_end-lower.result c.lower_end-lower.ensures.small c.lower_end-lower.ensures.lies c.in-None.ensures
+pub returns-in_err-first : goal.returns-in_err-first
+returns-in_err-first g c =
+    let grid = c.args.rounding.grid.now in
+    subst (λ (o : Option RoundedEnd). BothRounded (g.G.Grid.spacing grid) (mode_of c.args.rounding.mode) c.args.self.now c.args.below.reaching c.args.below.column o (limbs_value c.round_at.new.answer)) (sym c.from_residual.ensures)
+    (undecided_lower (g.G.Grid.spacing grid) (g.G.Grid.widest grid) (g.G.Grid.lawful grid) (mode_of c.args.rounding.mode) c.args.self.now c.args.self.now.sound c.requires.reach c.args.below.reaching
+    c.args.below.column c.requires.reached c.ends.result.0 c.ends.ensures.lower_small c.ends.ensures.lower c.in_err-first.ensures.rounded)
 
-pub returns-then-same_end : goal.returns-then-same_end
-returns-then-same_end g c =
-    let grid = c.args.grid.now in
-    decided_at_once (g.G.Grid.spacing grid) (g.G.Grid.widest grid) (g.G.Grid.lawful grid) (mode_of c.args.mode) c.args.self.now c.requires.sound c.requires.from c.requires.upto c.args.reaching
-    c.args.below c.requires.reached c.lower_end-lower.result c.upper_end-upper.result c.lower_end-lower.ensures.lies c.upper_end-upper.ensures.lies
-    c.in-Some.first (limbs_value c.round_at.new.answer) c.in-Some.ensures (c.same_end.ensures.same c.if-same_end.true)
+pub returns-then-eq : goal.returns-then-eq
+returns-then-eq g c =
+    let grid = c.args.rounding.grid.now in
+    let same : c.ends.result.0 ≡ c.ends.result.1 = search rules in
+    decided_at_once (g.G.Grid.spacing grid) (g.G.Grid.widest grid) (g.G.Grid.lawful grid) (mode_of c.args.rounding.mode) c.args.self.now c.args.self.now.sound c.requires.reach c.args.below.reaching
+    c.args.below.column c.requires.reached c.ends.result.0 c.ends.result.1 c.ends.ensures.lower c.ends.ensures.upper
+    c.in_ok-first.first (limbs_value c.round_at.new.answer) c.in_ok-first.ensures.rounded same
 
-pub round_at-requires-2 : goal.round_at-requires-2
-round_at-requires-2 g c =
-    let grid = c.args.grid.now in
-    let lawful = g.G.Grid.lawful grid in
-    let wide : g.G.Grid.widest grid ≤ 4096 = lawful.width_high in
-    record { sound = c.requires.sound; offset = c.upper_end-upper.ensures.small; from = c.requires.from; upto = c.requires.upto; few = omega arith; room = wide }
+pub round_at-requires-2-clause-room : goal.round_at-requires-2-clause-room
+round_at-requires-2-clause-room g c =
+    let lawful = g.G.Grid.lawful c.args.rounding.grid.now in
+    lawful.width_high
 
-pub returns-in-None-round_at : goal.returns-in-None-round_at
-returns-in-None-round_at g c =
-    let grid = c.args.grid.now in
-    undecided_upper (g.G.Grid.spacing grid) (g.G.Grid.widest grid) (g.G.Grid.lawful grid) (mode_of c.args.mode) c.args.self.now c.requires.sound c.requires.from c.requires.upto c.args.reaching
-    c.args.below c.requires.reached c.upper_end-upper.result c.upper_end-upper.ensures.small c.upper_end-upper.ensures.lies c.in-None-round_at.ensures
+pub returns-in_err-second : goal.returns-in_err-second
+returns-in_err-second g c =
+    let grid = c.args.rounding.grid.now in
+    subst (λ (o : Option RoundedEnd). BothRounded (g.G.Grid.spacing grid) (mode_of c.args.rounding.mode) c.args.self.now c.args.below.reaching c.args.below.column o (limbs_value c.round_at.new.answer)) (sym c.from_residual-in_err-second.ensures)
+    (undecided_upper (g.G.Grid.spacing grid) (g.G.Grid.widest grid) (g.G.Grid.lawful grid) (mode_of c.args.rounding.mode) c.args.self.now c.args.self.now.sound c.requires.reach c.args.below.reaching
+    c.args.below.column c.requires.reached c.ends.result.1 c.ends.ensures.upper_small c.ends.ensures.upper c.in_err-second.ensures.rounded)
 
-pub returns-then-same_limbs : goal.returns-then-same_limbs
-returns-then-same_limbs g c =
-    let grid = c.args.grid.now in
-    let fields : SameFields c.in-Some.first c.in-Some-round_at.second = c.same_fields.ensures.same c.if-same_fields.true in
-    decided (g.G.Grid.spacing grid) (g.G.Grid.widest grid) (g.G.Grid.lawful grid) (mode_of c.args.mode) c.args.self.now c.requires.sound c.requires.from c.requires.upto c.args.reaching
-    c.args.below c.requires.reached c.lower_end-lower.result c.upper_end-upper.result c.lower_end-lower.ensures.lies c.upper_end-upper.ensures.lies
-    c.in-Some.first c.in-Some-round_at.second (limbs_value c.round_at.new.answer) (limbs_value c.round_at-2.new.answer) c.in-Some.ensures c.in-Some-round_at.ensures
-    record { zero = fields.zero; negative = fields.negative; direction = fields.direction; exponent = fields.exponent; precision = fields.precision; limbs = c.same_limbs.ensures.same c.if-same_limbs.true }
+pub returns-then-eq-3 : goal.returns-then-eq-3
+returns-then-eq-3 g c =
+    let grid = c.args.rounding.grid.now in
+    let fields = same_when c.in_ok-first.first c.in_ok-second.second (sym c.eq-2.ensures ∙ c.if-eq-2.true) in
+    let decides = slice_eq-Decides Decides-eqb c.round_at.new.answer c.round_at-2.new.answer c.eq-then-eq-2.result c.eq-then-eq-2.ensures in
+    let limbs = ap limbs_value (decides.0 c.if-eq-3.true) in
+    decided (g.G.Grid.spacing grid) (g.G.Grid.widest grid) (g.G.Grid.lawful grid) (mode_of c.args.rounding.mode) c.args.self.now c.args.self.now.sound c.requires.reach c.args.below.reaching
+    c.args.below.column c.requires.reached c.ends.result.0 c.ends.result.1 c.ends.ensures.lower c.ends.ensures.upper
+    c.in_ok-first.first c.in_ok-second.second (limbs_value c.round_at.new.answer) (limbs_value c.round_at-2.new.answer) c.in_ok-first.ensures.rounded c.in_ok-second.ensures.rounded fields limbs
 
-pub returns-else-same_fields : goal.returns-else-same_fields
-returns-else-same_fields g c =
-    let grid = c.args.grid.now in
+pub returns-else-eq-2 : goal.returns-else-eq-2
+returns-else-eq-2 g c =
+    let grid = c.args.rounding.grid.now in
     let a = limbs_value c.round_at.new.answer in
     let b = limbs_value c.round_at-2.new.answer in
-    let differ : ¬ SameAnswer c.in-Some.first c.in-Some-round_at.second a b = λ same.
-    elim c.else-same_fields.branch [
-      | else-same_fields-via-then-same_fields+else-same_limbs w ↦ w.same_limbs.ensures.differ w.if-same_limbs.false same.limbs
-      | else-same_fields-via-else-same_fields w ↦ c.same_fields.ensures.differ w.if-same_fields.false record { zero = same.zero; negative = same.negative; direction = same.direction; exponent = same.exponent; precision = same.precision }
+    let ends : ¬ (c.ends.result.0 ≡ c.ends.result.1) = λ same. not_both (sym c.if-eq.false ∙ c.eq.ensures ∙ same_end _ _ same) in
+    let low : (i : ℕ) → get_or c.round_at.new.answer i 0 < 2 ^ 32 = c.round_at.ensures.limbs in
+    let high : (i : ℕ) → get_or c.round_at-2.new.answer i 0 < 2 ^ 32 = c.round_at-2.ensures.limbs in
+    let differ : ¬ ((c.in_ok-first.first ≡ c.in_ok-second.second) × (a ≡ b)) = λ (fields, limbs).
+    elim c.else-eq-2.branch [
+      | else-eq-2-via-then-eq-2+else-eq-3 w ↦
+          not_both (sym w.if-eq-3.false ∙ (slice_eq-Decides Decides-eqb c.round_at.new.answer c.round_at-2.new.answer w.eq-then-eq-2.result w.eq-then-eq-2.ensures).1
+          (limbs_same c.round_at.new.answer c.round_at-2.new.answer (omega (arith, c.requires.room)) low high limbs))
+      | else-eq-2-via-else-eq-2 w ↦ not_both (sym w.if-eq-2.false ∙ c.eq-2.ensures ∙ when_same _ _ fields)
     ] in
-    undecided (g.G.Grid.spacing grid) (g.G.Grid.widest grid) (g.G.Grid.lawful grid) (mode_of c.args.mode) c.args.self.now c.requires.sound c.requires.from c.requires.upto c.args.reaching
-    c.args.below c.requires.reached c.lower_end-lower.result c.upper_end-upper.result c.lower_end-lower.ensures.lies c.upper_end-upper.ensures.lies
-    c.in-Some.first c.in-Some-round_at.second a b c.in-Some.ensures c.in-Some-round_at.ensures (c.same_end.ensures.differ c.if-same_end.false) differ
+    undecided (g.G.Grid.spacing grid) (g.G.Grid.widest grid) (g.G.Grid.lawful grid) (mode_of c.args.rounding.mode) c.args.self.now c.args.self.now.sound c.requires.reach c.args.below.reaching
+    c.args.below.column c.requires.reached c.ends.result.0 c.ends.result.1 c.ends.ensures.lower c.ends.ensures.upper
+    c.in_ok-first.first c.in_ok-second.second a b c.in_ok-first.ensures.rounded c.in_ok-second.ensures.rounded ends differ

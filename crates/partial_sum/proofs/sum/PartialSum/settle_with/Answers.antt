@@ -10,17 +10,17 @@ settle_whole-requires c =
     let p = c.args.self.now in
     let fits : SFits w64 (slot p p.from) = search rules in
     let few = c.requires.few in
-    let small = slot_small p c.requires.sound p.from p.used in
+    let small = slot_small p c.args.self.now.sound p.from p.used in
     let v = to_z w64 (of_z w64 (to_z w64 (of_z w64 (slot p p.from)) +ℤ to_z w64 (of_z w64 c.args.offset))) in
     let is : v ≡ slot p p.from +ℤ c.args.offset = omega (arith, ints) in
-    record { room = omega (arith, slice_length p v, c.requires.room, p.used); small = slice_small p c.args.offset v c.requires.sound few is }
+    record { room = omega (arith, slice_length p v, c.requires.room, p.used); small = slice_small p c.args.offset v c.args.self.now.sound few is }
 
 pub returns : goal.returns
 returns c =
     let p = c.args.self.now in
     let fits : SFits w64 (slot p p.from) = search rules in
     let few = c.requires.few in
-    let small = slot_small p c.requires.sound p.from p.used in
+    let small = slot_small p c.args.self.now.sound p.from p.used in
     let v = to_z w64 (of_z w64 (to_z w64 (of_z w64 (slot p p.from)) +ℤ to_z w64 (of_z w64 c.args.offset))) in
     let is : v ≡ slot p p.from +ℤ c.args.offset = omega (arith, ints) in
     let value = slice_value p c.args.offset v is in

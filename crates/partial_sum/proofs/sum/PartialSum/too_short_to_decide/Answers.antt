@@ -19,6 +19,6 @@ returns-then-self g c =
     let spaced : SFits w32 c.spacing.result = search rules in
     let upto : exponent (dyadic (window p) (column_weight p.lowest)) ≤ℤ top = omega (arith, ints, c.top_exponent.ensures) in
     record {
-      whole = λ _. c.requires.sound.shaped.open_rest here;
-      member = λ test. (let fine : u top ≤ℤ column_weight p.lowest = omega (arith, ints, test, c.spacing.ensures, c.requires.from, c.requires.upto) in sum_on_grid u (g.G.Grid.widest grid) (g.G.Grid.lawful grid) p c.requires.sound here top upto fine);
+      whole = λ _. c.args.self.now.sound.shaped.open_rest here;
+      member = λ test. (let fine : u top ≤ℤ column_weight p.lowest = omega (arith, ints, test, c.spacing.ensures, c.requires.from, c.requires.upto) in sum_on_grid u (g.G.Grid.widest grid) (g.G.Grid.lawful grid) p c.args.self.now.sound here top upto fine);
     }

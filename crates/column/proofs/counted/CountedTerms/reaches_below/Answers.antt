@@ -4,11 +4,11 @@ use lib.Signed.{lt_z}
 use borrow.Author.Differences.{ints}
 use Rattle.batch.specs.Term.{column_weight}
 use Rattle.column.proofs.Lookups.{listed_low}
-use Rattle.column.proofs.counted.work.reaches_below.Goals as goal
+use Rattle.column.proofs.counted.CountedTerms.reaches_below.Goals as goal
 
 pub returns : goal.returns
 returns g c =
-    let ts = g.B.Batch.terms c.args.batch.now in
+    let ts = g.B.Batch.terms c.args.self.now.batch.now in
     let low : to_z w64 (of_z w64 c.from.result) ≡ c.low.result = omega (arith, ints) in
     let weight : to_z w64 (of_z w64 (pos 32 *ℤ to_z w64 (of_z w64 c.from-2.result))) ≡ column_weight c.args.column = omega (arith, ints) in
     ap₂ lt_z (low ∙ c.low.ensures ∙ sym (listed_low ts c.args.term)) weight

@@ -5,11 +5,11 @@ use Rattle.std.proofs.lemmas.Int.{to_z-of_z}
 use Rattle.exact.specs.Integers.{signed}
 use Rattle.batch.specs.Lookup.{digit_of_term}
 use Rattle.column.proofs.Lookups.{signed_listed}
-use Rattle.column.proofs.counted.work.signed_digit.Goals as goal
+use Rattle.column.proofs.counted.CountedTerms.signed_digit.Goals as goal
 
 pub returns-then-term : goal.returns-then-term
 returns-then-term g c =
-    let ts = g.B.Batch.terms c.args.batch.now in
+    let ts = g.B.Batch.terms c.args.self.now.batch.now in
     let term = c.args.term in
     let r = c.digit.result in
     let cast : to_z w64 (of_z w64 (pos 0 -ℤ to_z w64 (of_z w64 c.from-magnitude.result))) ≡ neg_ℤ (pos r) = omega (arith, ints) in
@@ -18,7 +18,7 @@ returns-then-term g c =
 
 pub returns-else-term : goal.returns-else-term
 returns-else-term g c =
-    let ts = g.B.Batch.terms c.args.batch.now in
+    let ts = g.B.Batch.terms c.args.self.now.batch.now in
     let term = c.args.term in
     let r = c.digit.result in
     let cast : to_z w64 (of_z w64 c.from-magnitude.result) ≡ pos r = omega (arith, ints) in
