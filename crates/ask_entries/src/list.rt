@@ -1,16 +1,21 @@
 // An entry made as a list of calls, asks among them.
 
 use crate::show;
-use ask_history::call::{Asking, SheetCall};
+use ask_history::call::{Asking, Call};
 use ask_history::outcome::Outcome;
 use ask_history::run::run;
-use grid::FreeGrid;
+use grid::{FreeGrid, Mode};
+use history::call::SheetCall;
 use list_batch::{ListBatch, Scaled};
+use sheet_lines::marks;
 use std::io;
 
+// The number of no mode.
+const NO_MODE: u32 = 5;
+
 // An ask about the first batch, with one limb for its answer.
-fn ask_in(mode: u32, grid: FreeGrid) -> SheetCall<FreeGrid> {
-    SheetCall::Ask(Asking {
+fn ask_in(mode: u32, grid: FreeGrid) -> Call<FreeGrid> {
+    Call::Ask(Asking {
         batch: 0,
         grid,
         mode,
@@ -18,39 +23,25 @@ fn ask_in(mode: u32, grid: FreeGrid) -> SheetCall<FreeGrid> {
     })
 }
 
-fn show_call(rt: &impl Print, call: SheetCall<FreeGrid>) -> io::Result<()> {
+fn show_call(rt: &impl Print, call: Call<FreeGrid>) -> io::Result<()> {
     match call {
-        SheetCall::Mark(place, mark) => print!(rt; "  mark {place} {mark}: "),
-        SheetCall::Undo => print!(rt; "  undo: "),
-        SheetCall::Set => print!(rt; "  set: "),
-        SheetCall::Reopen => print!(rt; "  reopen: "),
-        SheetCall::Ask(asking) => {
-            let mode = asking.mode;
-            print!(rt; "  ask in mode {mode}: ")
-        }
+        Call::Sheet(SheetCall::Mark(place, mark)) => print!(rt; "  mark {place} {mark}: "),
+        Call::Sheet(SheetCall::Undo) => print!(rt; "  undo: "),
+        Call::Sheet(SheetCall::Set) => print!(rt; "  set: "),
+        Call::Sheet(SheetCall::Reopen) => print!(rt; "  reopen: "),
+        Call::Ask(asking) => print!(rt; "  ask in mode {}: ", asking.mode),
     }
 }
 
 fn show_outcome(rt: &impl Print, outcome: Outcome) -> io::Result<()> {
     match outcome {
-        Outcome::Done => println!(rt; "done"),
-        Outcome::Refused(fault) => {
-            let number = fault.number();
-            let place = fault.place();
-            println!(rt; "refused, {number} at {place}")
-        }
-        Outcome::Answered(answered) => {
-            let limbs = answered.limbs;
-            show::answer(rt, Ok(answered.answer), &limbs)
-        }
+        Ok(None) => println!(rt; "done"),
+        Ok(Some(answered)) => show::answer(rt, Ok(answered.answer), &answered.limbs),
+        Err(fault) => println!(rt; "refused, {} at {}", fault.number(), fault.place()),
     }
 }
 
-fn show_all(
-    rt: &impl Print,
-    calls: &[SheetCall<FreeGrid>],
-    outcomes: &[Outcome],
-) -> io::Result<()> {
+fn show_all(rt: &impl Print, calls: &[Call<FreeGrid>], outcomes: &[Outcome]) -> io::Result<()> {
     for (call, outcome) in calls.iter().zip(outcomes.iter()) {
         show_call(rt, *call)?;
         show_outcome(rt, *outcome)?;
@@ -59,14 +50,14 @@ fn show_all(
 }
 
 // Runs the calls about 3 and 2^-2000.
-fn run_calls(rt: &impl Print, calls: &[SheetCall<FreeGrid>]) -> io::Result<()> {
+fn run_calls(rt: &impl Print, calls: &[Call<FreeGrid>]) -> io::Result<()> {
     let records = [Scaled::new(3, 0), Scaled::new(1, -2000)];
-    let mut outcomes = [Outcome::Done; 8];
+    let mut outcomes = [Ok(None); 8];
     match ListBatch::open(&records) {
         Ok(batch) => {
             let sheet = run(&[&batch], calls, &mut outcomes);
             show_all(rt, calls, &outcomes)?;
-            show::marks(rt, &sheet)
+            marks(rt, &sheet)
         }
         Err(_) => println!(rt; "  no such batch"),
     }
@@ -75,14 +66,14 @@ fn run_calls(rt: &impl Print, calls: &[SheetCall<FreeGrid>]) -> io::Result<()> {
 // Marks, an ask out of turn, the two asks that enclose the sum, and one that is refused.
 fn run_on(rt: &impl Print, grid: FreeGrid) -> io::Result<()> {
     let calls = [
-        SheetCall::Mark(0, 1),
-        ask_in(0, grid),
-        SheetCall::Mark(1, 2),
-        SheetCall::Set,
-        ask_in(1, grid),
-        ask_in(2, grid),
-        ask_in(5, grid),
-        SheetCall::Reopen,
+        SheetCall::Mark(0, 1).into(),
+        ask_in(Mode::Nearest as u32, grid),
+        SheetCall::Mark(1, 2).into(),
+        SheetCall::Set.into(),
+        ask_in(Mode::Downward as u32, grid),
+        ask_in(Mode::Upward as u32, grid),
+        ask_in(NO_MODE, grid),
+        SheetCall::Reopen.into(),
     ];
     run_calls(rt, &calls)
 }

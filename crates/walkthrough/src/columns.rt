@@ -7,36 +7,33 @@ use sheet::sheet::OpenSheet;
 use std::io;
 
 // Prints one column's work, and how far the ends lie from the sum as far as this column.
-fn column<B: Batch>(
+fn show<B: Batch>(
     rt: &impl Print,
-    counted: &CountedTerms,
-    b: &B,
+    counted: &CountedTerms<'_, B>,
     column: i32,
-) -> io::Result<Option<i32>> {
-    let (total, below) = counted.column_work(b, column);
+    next: Option<i32>,
+) -> io::Result<()> {
+    let (total, below) = counted.column_work(column);
     let weight = 32 * i64::from(column);
-    let next = counted.next_column(b, column);
     match next {
         Some(lower) => {
             let bound = 32 * (i64::from(lower) + 1);
             println!(rt;
                 "  column {column}: P gains {total} * 2^{weight}; ends P - {below} * 2^{bound} and P + {below} * 2^{bound}"
-            )?;
+            )
         }
         None => println!(rt;
             "  column {column}: P gains {total} * 2^{weight}; both ends are P, the exact sum"
-        )?,
+        ),
     }
-    Ok(next)
 }
 
-fn down<B: Batch>(rt: &impl Print, counted: &CountedTerms, b: &B) -> io::Result<()> {
-    let mut next = counted.first_column(b);
-    for _ in 0..64u32 {
-        match next {
-            Some(here) => next = column(rt, counted, b, here)?,
-            None => break,
-        }
+fn down<B: Batch>(rt: &impl Print, counted: &CountedTerms<'_, B>) -> io::Result<()> {
+    let mut here = counted.first_column();
+    while let Some(column) = here {
+        let next = counted.next_column(column);
+        show(rt, counted, column, next)?;
+        here = next;
     }
     Ok(())
 }
@@ -49,7 +46,7 @@ pub fn walk(rt: &impl Print) -> io::Result<()> {
     let _ = sheet.mark(1, 1);
     let set = sheet.set();
     match ListBatch::open(&records) {
-        Ok(opened) => down(rt, &CountedTerms::new(&opened, set.marks()), &opened),
+        Ok(opened) => down(rt, &CountedTerms::new(&opened, set.marks())),
         Err(_) => println!(rt; "  refused"),
     }
 }
