@@ -57,7 +57,8 @@ fn write_bits(number: BoundedLimbs, precision: usize, raise: bool, limbs: &mut [
     raise && add_unit(limbs, unused)
 }
 
-// The first `precision` bits of the number, raised by one or not, at the top of the answer, and 0 below. Tells whether that is 2 ^ precision, which has a bit more.
+// The first `precision` bits of the number, raised by one or not, at the top of the answer, and 0 below.
+// Tells whether that is 2 ^ precision, which has a bit more.
 // For the rounding of an end, which has room for them.
 pub fn write_rounded(
     number: BoundedLimbs,
