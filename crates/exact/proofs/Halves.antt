@@ -1,16 +1,10 @@
 -- The multiple of d nearest to n, a tie to the even one.
-use Rattle.std.proofs.Common.{◌≡◌, ℕ, suc, ◌+◌, ◌-◌, ◌*◌, ◌/◌, ◌%◌, ◌<◌, ◌≤◌, ◌⊎◌, sym, ◌∙◌, inl, inr, mod-lt, div-add-mod', mul-div_cancel, arith}
+use Rattle.std.proofs.Common.{◌≡◌, ℕ, suc, ◌+◌, ◌-◌, ◌*◌, ◌/◌, ◌%◌, ◌<◌, ◌≤◌, ◌⊎◌, sym, ◌∙◌, inl, inr, mod-lt, div-add-mod', arith}
 use Rattle.std.proofs.lemmas.Grind.{common_steps}
 use Prim.Native.Nat.{compare}
-use native.Mathlib.Nat.{div-eq_of_lt-le, mul-mod_left}
+use native.Mathlib.Nat.{div-eq_of_lt-le}
 use lib.Ieee.{nearest}
 use lib.Ieee.Nearest.{closest}
-
-nearest_of_none : (q d : ℕ) → 0 < d → nearest q (compare 0 d) ≡ q
-nearest_of_none q d h = grind arith
-
-pub closest_exact : (q d : ℕ) → 0 < d → closest (q * d) d ≡ q
-closest_exact q d h = rw (mul-div_cancel q h, mul-mod_left q d) (nearest_of_none q d h)
 
 -- ---- between its neighbours
 pub near_ge : (n d : ℕ) → n / d * d ≤ closest n d * d

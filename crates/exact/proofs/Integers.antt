@@ -29,23 +29,11 @@ pub signed_within : (s : Bool) (a b : ℕ) → a ≤ b → (neg_ℤ (pos b) ≤�
 signed_within s a b h = grind (arith, ints)
 
 -- ---- signs
-pub sign_mono : (x y : ℤ) → x ≤ℤ y → sign x ≤ℤ sign y
-sign_mono x y h = grind (arith, ints)
-
 pub sign_above : (x : ℤ) → pos 0 <ℤ x → sign x ≡ pos 1
 sign_above x h = grind (arith, ints)
 
 pub sign_below : (x : ℤ) → x <ℤ pos 0 → sign x ≡ negsuc 0
 sign_below x h = grind (arith, ints)
-
-pub above_sign : (x : ℤ) → sign x ≡ pos 1 → pos 0 <ℤ x
-above_sign x h = grind (arith, ints)
-
-pub below_sign : (x : ℤ) → sign x ≡ negsuc 0 → x <ℤ pos 0
-below_sign x h = grind (arith, ints)
-
-pub none_sign : (x : ℤ) → sign x ≡ pos 0 → x ≡ pos 0
-none_sign x h = grind (arith, ints)
 
 -- what lies between two numbers on one side of v lies on that side
 pub sign_between : (v a s b : ℤ) → a ≤ℤ s → s ≤ℤ b → sign (v -ℤ a) ≡ sign (v -ℤ b) → sign (v -ℤ s) ≡ sign (v -ℤ a)
