@@ -38,7 +38,11 @@ fn describe<B: Batch>(rt: &impl Print, name: &str, b: &B) -> io::Result<()> {
 }
 
 fn refused(rt: &impl Print, name: &str, fault: BatchFault) -> io::Result<()> {
-    println!(rt; "  {name}: refused, {} at {}", fault.number(), fault.place())
+    println!(rt;
+        "  {name}: refused, {} at {}",
+        fault.number(),
+        fault.place()
+    )
 }
 
 // Prints the terms of a batch, or why there is none.
@@ -71,7 +75,11 @@ fn limbs(rt: &impl Print) -> io::Result<()> {
         limb_record(Kind::Negative, 1, 33, 1),
         limb_record(Kind::NegativeZero, 0, 0, 0),
     ];
-    show(rt, "limbs: 5, -(1 + 2^-32), -0", LimbBatch::open(&records, &POOL))
+    show(
+        rt,
+        "limbs: 5, -(1 + 2^-32), -0",
+        LimbBatch::open(&records, &POOL),
+    )
 }
 
 fn pairs(rt: &impl Print) -> io::Result<()> {
