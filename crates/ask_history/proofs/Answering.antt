@@ -1,12 +1,11 @@
 -- The law of an ask of a list, from what the ask itself promises, and asks whose batch and grid keep their laws.
 use Rattle.std.proofs.Common.{◌≡◌, ℕ, zero, suc, ◌<◌, ◌≤◌, List, [], ◌∷◌, ◌++◌, map, length, get_or, Some, Ok, Result, sym, refl, ap, ◌∙◌, subst}
 use Rattle.std.proofs.lemmas.List.{get_or-map, get_or_past, length-map, take_at}
-use Rattle.grid.specs.Spacing.{Lawful}
 use Rattle.batch.specs.Term.{Term, Batchable}
 use Rattle.sheet.specs.declared.sheet.SetSheet.{SetSheet}
 use Rattle.sheet.specs.Model.{asking}
 use Rattle.answers.specs.Asked.{Question, Reply, answered}
-use Rattle.answers.specs.Trace.{Event, event, history_of, reply_after, TracedSet, ProperCall}
+use Rattle.answers.specs.Trace.{Event, event, history_of, reply_after, TracedSet}
 use Rattle.ask.specs.declared.answer.Answer.{Answer}
 use Rattle.ask.specs.declared.fault.AskFault.{AskFault}
 use Rattle.ask.specs.Told.{published, told}
