@@ -1,15 +1,13 @@
 -- The law of an ask of a list, from what the ask itself promises, and asks whose batch and grid keep their laws.
-use Rattle.std.proofs.Common.{◌≡◌, ℕ, zero, suc, ◌<◌, ◌≤◌, List, [], ◌∷◌, ◌++◌, map, length, get_or, Some, Ok, Result, sym, refl, ap, ◌∙◌, subst}
-use Rattle.std.proofs.lemmas.List.{get_or-map, get_or_past, length-map, take_at}
-use Rattle.grid.specs.Spacing.{Lawful}
+use Rattle.std.proofs.Common.{◌≡◌, ℕ, zero, suc, List, [], ◌∷◌, ◌++◌, map, get_or, Result, sym, refl, ◌∙◌, subst}
 use Rattle.batch.specs.Term.{Term, Batchable}
 use Rattle.sheet.specs.declared.sheet.SetSheet.{SetSheet}
 use Rattle.sheet.specs.Model.{asking}
-use Rattle.answers.specs.Asked.{Question, Reply, answered}
-use Rattle.answers.specs.Trace.{Event, event, history_of, reply_after, TracedSet, ProperCall}
+use Rattle.answers.specs.Asked.{Question, Reply}
+use Rattle.answers.specs.Trace.{Event, event, history_of, reply_after, TracedSet}
 use Rattle.ask.specs.declared.answer.Answer.{Answer}
 use Rattle.ask.specs.declared.fault.AskFault.{AskFault}
-use Rattle.ask.specs.Told.{published, told}
+use Rattle.ask.specs.Told.{told}
 use Rattle.history.specs.declared.any_sheet.Sheet.TheVariants.{Set}
 use Rattle.ask_history.specs.Data.{Outcome, reply_told}
 use Rattle.ask_history.specs.Law.{CallLaw}
@@ -28,17 +26,6 @@ ask_law s q n m o r ls same tells answers reached =
       when_refused = λ _. refl;
       when_answered = λ _. refl;
     })
-
--- an outcome that holds the answer, its limbs and more tells the answer with its limbs
-pub held : (a : Answer) (ls rest : List ℕ) (n : ℕ) → length ls ≡ n → reply_told (Ok (Some (record { answer = a; limbs = ls ++ rest; lent = n }))) ≡ answered (published a ls)
-held a ls rest n long = ap (λ (l : List ℕ). answered (published a l)) (take_at ls rest n long)
-
--- the terms of the batch that a number names
-pub terms_named : {X : Type 0} (terms : X → List Term) (xs : List X) (i : ℕ) (x : X) → i < length xs → x ≡ get_or xs i x → get_or (map terms xs) i [] ≡ terms x
-terms_named terms xs i x within is = get_or-map terms xs i x [] within ∙ ap terms (sym is)
-
-pub terms_past : {X : Type 0} (terms : X → List Term) (xs : List X) (i : ℕ) → length xs ≤ i → get_or (map terms xs) i [] ≡ []
-terms_past terms xs i past = get_or_past (map terms xs) i [] (rw (length-map xs terms) past)
 
 -- the terms that any number names can be a batch
 pub named_batchable : {X : Type 0} (terms : X → List Term) (limited : (x : X) → Batchable (terms x)) (xs : List X) (i : ℕ) → Batchable (get_or (map terms xs) i [])

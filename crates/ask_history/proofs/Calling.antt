@@ -64,7 +64,7 @@ pub own_call : (s t : Sheet) (c : SheetCall) (x : SheetOutcome) (o : Outcome) �
     → (is_some (outcome_tells x) ≡ true → t ≡ s) → CallLaw s (call_of c) t o
 own_call s t c x o tells answers reaches stays =
     let got : (h : List Event) → Traced h s → reply_told o ≡ reply_after (history_of h) (call_of c)
-            = λ h a. tells ∙ ap reply_of (answers (history_of h) (traced_reaches h s a)) ∙ sym (own_reply (history_of h) c) in
+    = λ h a. tells ∙ ap reply_of (answers (history_of h) (traced_reaches h s a)) ∙ sym (own_reply (history_of h) c) in
     record {
       answers = got;
       traced = λ h a. traced_on h s t (call_of c) (reply_told o) (own_proper c) a (got h a)
@@ -78,7 +78,7 @@ pub ask_out_of_turn : (s : OpenSheet) (q : Question) → Proper q → CallLaw (O
 ask_out_of_turn s q proper =
     let r : Reply = refused (refused_by 20) in
     let got : (h : List Event) → Traced h (Open s) → r ≡ reply_after (history_of h) (asking q)
-            = λ h a. sym (cond-false _ _ _ (ap (λ (b : Bool). fits b (asking q)) a.state)) in
+    = λ h a. sym (cond-false _ _ _ (ap (λ (b : Bool). fits b (asking q)) a.state)) in
     record {
       answers = got;
       traced = λ h a. traced_on h (Open s) (Open s) (asking q) r proper a (got h a)

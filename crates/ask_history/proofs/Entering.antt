@@ -1,7 +1,6 @@
 -- The law over a list of calls, call by call.
-use Rattle.std.proofs.Common.{◌≡◌, ℕ, ◌+◌, ◌<◌, ◌≤◌, List, [], ◌∷◌, ◌++◌, length, get_or, take, drop, set, None, Ok, sym, refl, ap, ◌∙◌, subst, ⊎_elim, arith, length-set}
-use Rattle.std.proofs.lemmas.List.{length_push, get_or_push, get_or_append_left, get_or-set_same, get_or-set_other, take_at, take-append-le, take_more, length-take-le, drop-drop, drop-set-lt}
-use Rattle.std.proofs.lemmas.Bool.{cases_eq}
+use Rattle.std.proofs.Common.{◌≡◌, ℕ, ◌+◌, ◌<◌, ◌≤◌, List, [], ◌∷◌, ◌++◌, length, get_or, take, set, None, Ok, sym, refl, ap, ◌∙◌, subst, arith, length-set}
+use Rattle.std.proofs.lemmas.List.{length_push, length-take-le}
 use Rattle.sheet.specs.Model.{Call, History, undoing, mark_after}
 use Rattle.history.specs.Turns.{fitting}
 use Rattle.answers.specs.Asked.{Question}
@@ -11,6 +10,7 @@ use Rattle.history.specs.Reaches.{shown_on}
 use Rattle.ask_history.specs.Data.{Outcome, reply_told}
 use Rattle.ask_history.specs.Law.{CallLaw, trace_of, history_run, EntryLaw}
 use Rattle.ask_history.specs.Traced.{Traced}
+use Rattle.history.proofs.Entering.{answers_push, untouched_push, take_push}
 use Rattle.ask_history.proofs.Leading.{traced_marks}
 
 -- the calls of a trace
@@ -41,28 +41,14 @@ law_none before s a = record {
 pub law_push : (cs : List (Call Question)) (before written : List Outcome) (s t : Sheet) (c : Call Question) (o : Outcome) → length cs < length written
     → CallLaw s c t o → EntryLaw cs before written s → EntryLaw (cs ++ c ∷ []) before (set written (length cs) o) t
 law_push cs before written s t c o room call law =
-    let n = length cs in
-    let longer : length (cs ++ c ∷ []) ≡ length cs + 1 = length_push cs c in
     let h : List Event = trace_of cs written in
     let told : reply_told o ≡ reply_after (history_run cs) c = call.answers h law.traced ∙ ap (λ (x : History). reply_after x c) (trace_history cs written (omega arith)) in
-    let a : Traced (trace_of (cs ++ c ∷ []) (set written n o)) t = subst (λ (x : List Event). Traced x t) (sym (trace_push cs written c o room)) (call.traced h law.traced) in
+    let a : Traced (trace_of (cs ++ c ∷ []) (set written (length cs) o)) t = subst (λ (x : List Event). Traced x t) (sym (trace_push cs written c o room)) (call.traced h law.traced) in
     record {
-      answers = λ i within. ⊎_elim
-          (λ (last : i ≡ n).
-          ap reply_told (subst (λ (j : ℕ). get_or (set written n o) j (Ok None) ≡ o) (sym last) (get_or-set_same written n o (Ok None) room))
-          ∙ told ∙ ap (λ (x : List (Call Question)). reply_after (history_run x) c) (sym (take_at cs (c ∷ []) i (sym last)))
-          ∙ ap (reply_after (history_run (take i (cs ++ c ∷ [])))) (sym (get_or_push cs c undoing i (sym last))))
-          (λ (earlier : i ≡ n → ⊥).
-          let inside : i < length cs = omega (arith, longer, earlier) in
-          ap reply_told (get_or-set_other written n i o (Ok None) earlier) ∙ law.answers i inside
-          ∙ ap (λ (x : List (Call Question)). reply_after (history_run x) (get_or cs i undoing)) (sym (take-append-le i cs (c ∷ []) (omega arith)))
-          ∙ ap (reply_after (history_run (take i (cs ++ c ∷ [])))) (sym (get_or_append_left cs (c ∷ []) undoing i inside)))
-          (cases_eq i n);
+      answers = answers_push (λ (ds : List (Call Question)) (d : Call Question). reply_after (history_run ds) d) reply_told undoing (Ok None) cs written c o room told law.answers;
       traced = a;
-      untouched =
-          subst (λ (k : ℕ). drop k (set written n o) ≡ drop k before) (sym longer)
-          (drop-set-lt (n + 1) written n o (omega arith) ∙ sym (drop-drop 1 n written) ∙ ap (drop 1) law.untouched ∙ drop-drop 1 n before);
-      marks = entered_marks (cs ++ c ∷ []) (set written n o) t (omega (arith, longer, length-set written n o)) a;
+      untouched = untouched_push cs before written c o law.untouched;
+      marks = entered_marks (cs ++ c ∷ []) (set written (length cs) o) t (omega (arith, length_push cs c, length-set written (length cs) o)) a;
     }
 
 -- the same, of the first i calls of a list and the next one
@@ -70,6 +56,5 @@ pub law_more : (cs : List (Call Question)) (i : ℕ) (before written : List Outc
     → get_or cs i undoing ≡ c → CallLaw s c t o → EntryLaw (take i cs) before written s → EntryLaw (take (i + 1) cs) before (set written i o) t
 law_more cs i before written s t c o within room here call law =
     let long : length (take i cs) ≡ i = length-take-le i cs (omega arith) in
-    let more : take i cs ++ c ∷ [] ≡ take (i + 1) cs = ap (λ (x : Call Question). take i cs ++ x ∷ []) (sym here) ∙ sym (take_more cs i undoing within) in
-    subst (λ (x : List (Call Question)). EntryLaw x before (set written i o) t) more
+    subst (λ (x : List (Call Question)). EntryLaw x before (set written i o) t) (take_push cs i c undoing within here)
     (subst (λ (k : ℕ). EntryLaw (take i cs ++ c ∷ []) before (set written k o) t) long (law_push (take i cs) before written s t c o (omega arith) call law))

@@ -5,7 +5,7 @@ ghost use Rattle.ask_history.specs.declared.call.Call.TheVariants.{Sheet, Ask};
 
 use history::call::SheetCall;
 
-// An ask: the number of its batch in the list of batches, its grid, the number of its mode, and how many limbs it lends for the answer.
+// An ask, with numbers that a caller hands in: of its batch in the list of batches, and of its mode; and how many limbs it lends for the answer.
 #[derive(Clone, Copy, PartialEq, Eq, Debug)]
 pub struct Asking<G> {
     pub batch: usize,

@@ -18,6 +18,7 @@ pub fn run<'a, B: Batch, G: Grid + Copy>(
 ) -> Sheet
     ensures { EntryLaw (calls_run G.Grid.spacing G.Grid.widest (map (λ b. B.Batch.terms b.now) batches.now) calls.now outcomes.old) outcomes.old outcomes.new result }
 {
+    // A loop beside that of history: one for both would take the call as a closure, and promise a relation between a list of calls and two sheets.
     let turns = calls.len().min(outcomes.len());
     let mut sheet = new_sheet();
     for (i, &wanted) in calls[..turns].iter().enumerate() {

@@ -8,10 +8,9 @@ use crate::fault::SheetFault;
 use std::fmt;
 
 // Each mark has its published number.
-#[derive(Clone, Copy, PartialEq, Eq, Hash, Default, Debug)]
+#[derive(Clone, Copy, PartialEq, Eq, Hash, Debug)]
 pub enum Mark {
     // the term does not count
-    #[default]
     Out = 0,
     // the term counts
     In = 1,

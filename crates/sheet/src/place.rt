@@ -24,13 +24,6 @@ impl Place {
     }
 }
 
-// A blank slot of a trail holds the first place.
-impl Default for Place {
-    fn default() -> Place {
-        Place::FIRST
-    }
-}
-
 // The place that a caller's number names.
 impl TryFrom<u32> for Place {
     type Error = SheetFault;

@@ -1,4 +1,4 @@
-use Rattle.std.proofs.Common.{◌≡◌, ℕ, min, List, Err, Result, sym, ap, ◌∙◌, rules}
+use Rattle.std.proofs.Common.{ℕ, min, List, Err, Result, sym, ap, ◌∙◌, rules}
 use Rattle.std.proofs.lemmas.Result.{err_from_is_err_and}
 use Rattle.answers.specs.Asked.{Question, question}
 use Rattle.ask.specs.declared.answer.Answer.{Answer}
