@@ -11,8 +11,7 @@ returns c =
     let t = to_z-of_z w64 c.args.total c.ranges.total in
     let d = to_z-of_z w32 c.args.column c.ranges.column in
     record {
-      sound = c.absorb.ensures.sound;
-      sum = subst (λ (z : ℤ). Absorbed p q c.args.total z) d (subst (λ (z : ℤ). Absorbed p q z (to_z w32 (of_z w32 c.args.column))) t c.absorb.ensures.absorbed);
+      sum = subst (λ (z : ℤ). Absorbed p q c.args.total z) d (subst (λ (z : ℤ). Absorbed p q z (to_z w32 (of_z w32 c.args.column))) t c.absorb.ensures);
       at = d;
       reaching = refl;
       deeper = refl;
