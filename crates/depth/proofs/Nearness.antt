@@ -4,8 +4,8 @@ use lib.Signed.{lt_z}
 use Rattle.std.proofs.lemmas.List.{length-map}
 use borrow.Author.Differences.{ints}
 use Rattle.std.specs.List.{AllByRecursion}
-use Rattle.batch.specs.Term.{Term, not_a_number, infinite, signed_zero, regular, low_weight, top_weight, farthest_top, Limited}
-use Rattle.batch.specs.Lookup.{low_of_term, top_of_term}
+use Rattle.batch.specs.Term.{Term, not_a_number, infinite, signed_zero, regular, low_weight, Limited}
+use Rattle.batch.specs.Lookup.{low_of_term}
 use Rattle.column.specs.declared.term.CountedTerm.{CountedTerm}
 use Rattle.column.specs.Parts.{low}
 use Rattle.column.specs.Columns.{Occupied}
