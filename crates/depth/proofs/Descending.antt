@@ -13,7 +13,8 @@ use Rattle.column.specs.Claims.{DownFrom, StartsWith, GoesOnWith, Walked}
 use Rattle.column.proofs.Depths.{some_column}
 use Rattle.column.proofs.Listing.{columns_occupied}
 use Rattle.column.proofs.Walking.{walk_starts, walk_goes_on}
-use Rattle.partial_sum.specs.Holding.{most_total, Absorbs}
+use Rattle.partial_sum.specs.Holding.{Absorbs}
+use Rattle.partial_sum.specs.Limits.{most_total}
 use Rattle.partial_sum.specs.Ends.{lower_number, Reached}
 use Rattle.partial_sum.specs.Joints.{Holds}
 use Rattle.partial_sum.specs.Rounded.{Undecided, UndecidedBefore}
@@ -56,13 +57,15 @@ to_come_occupied ps c cs (above, e) = columns_occupied ps c (subst (λ (l : List
     past (x ∷ above) = inr (past above)
 
 module _ (u : ℤ → ℤ) (m : Mode) (ps : List Part) (regular : Regular ps) (near : (k : ℤ) → Occupied ps k → Near k) where
+  pub first_near : (c : ℤ) → Some c ≡ first_column (columns ps) → Near c
+  first_near c e = let l = listed_first c (columns ps) e in near c (to_come_occupied ps c l.0 ([], l.1))
+
   pub begun_stands : (c t : ℤ) (n : ℕ) (s : Descent) → Some c ≡ first_column (columns ps) → StartsWith ps c t → n ≡ reaching_below ps (column_weight c) → Begun t n c s → Stands u m ps s
   begun_stands c t n s e starts reach b =
       let l = listed_first c (columns ps) e in
       let down : Walked u m ps 0 (c ∷ l.0) = subst (Walked u m ps 0) l.1 (walk_starts u m ps) in
       let k = near c (to_come_occupied ps c l.0 down.to_come) in
       record {
-        sound = b.sound;
         holds = record { value = b.sum ∙ sym (starts regular l.0 l.1) ∙ ap (λ (z : ℤ). (sum_down_to ps z).count) (sym b.at); at = b.sum_at ∙ sym b.at };
         reaching = b.reaching ∙ reach ∙ ap (λ (z : ℤ). reaching_below ps (column_weight z)) (sym b.at);
         passed = 0;
@@ -81,7 +84,7 @@ module _ (u : ℤ → ℤ) (m : Mode) (ps : List Part) (regular : Regular ps) (n
     depth_few = let k = stands_near in omega (arith, ints, k.from, st.not_far)
 
     pub lowest_near : Near s.sum.lowest
-    lowest_near = let k = stands_near in record { from = omega (arith, ints, k.from, st.sound.shaped.order, st.holds.at); upto = st.not_high }
+    lowest_near = let k = stands_near in record { from = omega (arith, ints, k.from, s.sum.sound.shaped.order, st.holds.at); upto = st.not_high }
 
     -- a next column is near too
     pub next_near : (c : ℤ) (below : Option ℤ) → Highest c (Occupied ps) below → (d : ℤ) → below ≡ Some d → Near d
@@ -104,7 +107,6 @@ module _ (u : ℤ → ℤ) (m : Mode) (ps : List Part) (regular : Regular ps) (n
 
       pub absorbs_next : (t : ℤ) → nat_abs t < most_total → Absorbs s.sum t d
       absorbs_next t small = record {
-        sound = st.sound;
         further = subst (λ (z : ℤ). d <ℤ z) (sym st.holds.at) highest_next.1;
         total = omega arith;
         rest_few = before.rest_few;
@@ -127,7 +129,6 @@ module _ (u : ℤ → ℤ) (m : Mode) (ps : List Part) (regular : Regular ps) (n
           let holds = sums_absorbed ps s.sum q.sum s.column d t l.0 regular st.holds both goes g.sum in
           let lower = highest_next.1 in
           record {
-            sound = g.sound;
             holds = subst (Holds ps q.sum) (sym g.at) holds;
             reaching = g.reaching ∙ reach ∙ ap (λ (z : ℤ). reaching_below ps (column_weight z)) (sym g.at);
             passed = st.passed + 1;

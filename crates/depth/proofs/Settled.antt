@@ -1,13 +1,12 @@
 -- Where the two ends round alike, the exact sum rounds as they do, and the column's number is the depth.
-use Rattle.std.proofs.Common.{◌≡◌, ℕ, ◌*◌, List, ℤ, pos, ◌-ℤ◌, Option, sym, ap, ◌∙◌, subst}
+use Rattle.std.proofs.Common.{◌≡◌, ℕ, List, ℤ, Option, sym, ap, ◌∙◌, subst}
 use Rattle.exact.specs.Dyadic.{Dyadic}
 use Rattle.exact.proofs.Order.{≈ᴰ_trans}
 use Rattle.grid.specs.Spacing.{Lawful}
 use Rattle.grid.specs.Rounding.{Mode, Answer, rounded, Alike}
 use Rattle.batch.specs.Term.{column_weight}
-use Rattle.limbs.specs.Bits.{limbs_for}
 use Rattle.ends.specs.Directions.{direction_sign}
-use Rattle.ends.specs.Outcome.{in_units, RoundsTo}
+use Rattle.ends.specs.Outcome.{number_told, RoundsAs}
 use Rattle.ends.specs.declared.rounded_end.RoundedEnd.{RoundedEnd}
 use Rattle.column.specs.Parts.{Part, Regular, exact_sum}
 use Rattle.column.specs.Columns.{columns}
@@ -54,12 +53,10 @@ module _ (u : ℤ → ℤ) (m : Mode) (ps : List Part) (s : Descent) (st : Stand
       let alike : EndsAlike =
       subst (λ (x : Dyadic). Alike (rounded u m low) (rounded u m x)) (upper_is below e) (subst (λ (x : Dyadic). Alike (rounded u m x) (rounded u m (upper_number s.sum s.reaching below))) (lower_is below e) d.alike) in
       let ends = walk_ends u m ps st.passed s.column st.further st.walked alike in
-      let v = r.exponent -ℤ pos (32 * limbs_for r.precision) in
-      let near = subst (λ (x : Dyadic). RoundsTo u m x r.negative a v (direction_sign r.direction)) (lower_is below e) d.rounds in
+      let near = subst (λ (x : Dyadic). RoundsAs u m x r.negative r.extent a (direction_sign r.direction)) (lower_is below e) d.rounds in
       let right = subst (Alike (rounded u m (exact_sum ps))) ends.1 (answer_right u W lawful m ps regular) in
       record {
-        none = d.none;
-        placed = d.placed;
-        rounds = alike_trans (rounded u m (exact_sum ps)) (rounded u m low) (in_units r.negative a v (direction_sign r.direction)) right near;
+        limbs = d.limbs;
+        rounds = alike_trans (rounded u m (exact_sum ps)) (rounded u m low) (record { value = number_told r.negative r.extent a; negative = r.negative; direction = direction_sign r.direction }) right near;
         deep = st.counted ∙ sym ends.0;
       }

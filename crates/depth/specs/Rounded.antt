@@ -1,9 +1,8 @@
 -- What going down the columns of a sum tells: the exact sum, rounded, and its depth.
-use Rattle.std.specs.Prelude.{◌≡◌, ℕ, ◌*◌, true, false, List, [], ℤ, pos, ◌-ℤ◌, Some, None, Option}
+use Rattle.std.specs.Prelude.{◌≡◌, ℕ, List, [], ℤ, Some, None, Option}
 use Rattle.grid.specs.Rounding.{Mode}
-use Rattle.limbs.specs.Bits.{limbs_for}
 use Rattle.ends.specs.Directions.{direction_sign}
-use Rattle.ends.specs.Outcome.{RoundsTo, Placed}
+use Rattle.ends.specs.Outcome.{Written, RoundsAs}
 use Rattle.ends.specs.declared.rounded_end.RoundedEnd.{RoundedEnd}
 use Rattle.column.specs.Parts.{Part, exact_sum}
 use Rattle.column.specs.Depth.{depth}
@@ -11,9 +10,8 @@ use Rattle.depth.specs.declared.RoundedSum.{RoundedSum}
 
 -- the exact sum of the parts rounds to the limbs a: all 0, or exactly the digits that the grid has at the answer's exponent; and d is its depth
 pub record RoundedTo (u : ℤ → ℤ) (m : Mode) (ps : List Part) (r : RoundedEnd) (d a : ℕ) : Type 0 where
-  pub none : r.zero ≡ true → a ≡ 0
-  pub placed : r.zero ≡ false → Placed u r.exponent r.precision a
-  pub rounds : RoundsTo u m (exact_sum ps) r.negative a (r.exponent -ℤ pos (32 * limbs_for r.precision)) (direction_sign r.direction)
+  pub limbs : Written u r.extent a
+  pub rounds : RoundsAs u m (exact_sum ps) r.negative r.extent a (direction_sign r.direction)
   pub deep : d ≡ depth u m ps
 
 -- nothing is told exactly if there is no part

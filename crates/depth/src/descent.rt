@@ -2,17 +2,17 @@
 ghost use Rattle.std.specs.Prelude.{◌≡◌, ◌≤◌, length, unsigned_abs};
 ghost use Rattle.exact.specs.Limbs.{limbs_value};
 ghost use Rattle.grid.specs.Modes.{mode_of};
-ghost use Rattle.column.specs.Parts.{Regular};
 ghost use Rattle.column.specs.CountedTerms.{listed_parts};
-ghost use Rattle.partial_sum.specs.Holding.{most_total, Absorbs};
+ghost use Rattle.partial_sum.specs.Limits.{most_total};
+ghost use Rattle.partial_sum.specs.Holding.{Absorbs};
 ghost use Rattle.depth.specs.Rounded.{RoundedTo};
 ghost use Rattle.depth.specs.Descending.{Begun, GoneOn, Stands};
 
 use crate::RoundedSum;
 use batch::Batch;
 use column::CountedTerms;
-use grid::{Grid, Mode};
-use partial_sum::PartialSum;
+use grid::{Grid, Rounding};
+use partial_sum::{Below, PartialSum};
 
 // The sum as far as the column, how many terms reach below that, and its number from the first column down, from 1.
 #[derive(Drop)]
@@ -52,30 +52,29 @@ impl Descent {
     // Goes down until the two ends round alike. Where they do not, there is a next column.
     pub fn finish<B: Batch, G: Grid>(
         &mut self,
-        terms: &CountedTerms,
-        batch: &B,
-        grid: &G,
-        mode: Mode,
+        terms: &CountedTerms<B>,
+        rounding: Rounding<G>,
         answer: &mut [u32],
     ) -> RoundedSum
-        requires regular { Regular (listed_parts (B.Batch.terms batch.now) terms.now) }
-        requires stands { Stands (G.Grid.spacing grid.now) (mode_of mode) (listed_parts (B.Batch.terms batch.now) terms.now) self.old }
+        requires stands { Stands (G.Grid.spacing rounding.grid.now) (mode_of rounding.mode) (listed_parts terms.now) self.old }
         requires room { length answer.old ≡ 128 }
-        ensures { RoundedTo (G.Grid.spacing grid.now) (mode_of mode) (listed_parts (B.Batch.terms batch.now) terms.now) result.end result.depth (limbs_value answer.new) }
+        ensures { RoundedTo (G.Grid.spacing rounding.entry.grid.now) (mode_of rounding.entry.mode) (listed_parts terms.now) result.end result.depth (limbs_value answer.new) }
     {
         loop {
-            let below = terms.next_column(batch, self.column);
-            let ends = self
-                .sum
-                .round_ends(self.reaching as u32, below, grid, mode, answer);
-            if let Some(end) = ends {
+            let below = Below {
+                reaching: self.reaching as u32,
+                column: terms.next_column(self.column),
+            };
+            if let Some(end) = self.sum.round_ends(below, rounding, answer) {
                 return RoundedSum {
                     end,
                     depth: self.depth,
                 };
             }
-            let next = below.unwrap();
-            let (total, reaching) = terms.column_work(batch, next);
+            let Some(next) = below.column else {
+                unreachable!()
+            };
+            let (total, reaching) = terms.column_work(next);
             self.go_on(total, reaching, next);
         }
     }

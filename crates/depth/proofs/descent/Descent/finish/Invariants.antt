@@ -6,7 +6,7 @@ use Rattle.depth.proofs.Descending.{left}
 use Rattle.depth.proofs.descent.Descent.finish.Given as goal
 
 abbrev pub invariant-loop-end : goal.invariant-loop-end
-invariant-loop-end g l = Stands (g.G.Grid.spacing l.grid) (mode_of l.mode) (listed_parts (g.B.Batch.terms l.batch) l.terms) l.self
+invariant-loop-end g l = Stands (g.G.Grid.spacing l.rounding.grid.now) (mode_of l.rounding.mode) (listed_parts l.terms) l.self
 
 abbrev pub decreases-loop-end : goal.decreases-loop-end
 decreases-loop-end g l = left l.self
