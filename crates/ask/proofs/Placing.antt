@@ -1,5 +1,5 @@
 -- The published answer of a sum, from what its rounding tells.
-use Rattle.std.proofs.Common.{◌≡◌, ℕ, zero, suc, ◌-◌, ◌*◌, ◌^◌, ◌<◌, ◌≤◌, Bool, true, false, List, [], ℤ, pos, ◌-ℤ◌, nat_abs, sym, refl, ap, ◌∙◌, subst, inl, mul_comm, pow-suc, arith, pow_pos}
+use Rattle.std.proofs.Common.{◌≡◌, ℕ, zero, suc, ◌-◌, ◌*◌, ◌^◌, ◌<◌, ◌≤◌, Bool, true, false, List, [], ℤ, pos, ◌-ℤ◌, Some, None, Option, nat_abs, sym, refl, ap, ◌∙◌, subst, inl, mul_comm, pow-suc, arith, pow_pos}
 use lib.Ieee.{size}
 use borrow.Author.Differences.{ints}
 use Rattle.std.proofs.lemmas.Bool.{cond-true, cond-false, eq-eqb, ne_eqb}
@@ -13,9 +13,10 @@ use Rattle.exact.proofs.Exponents.{nonzero_≈, exponent_≈}
 use Rattle.grid.specs.Rounding.{Mode, rounded}
 use Rattle.grid.proofs.Outcomes.{exact, direction}
 use Rattle.limbs.specs.Bits.{limbs_for}
-use Rattle.ends.specs.Outcome.{Placed}
+use Rattle.ends.specs.Outcome.{Placed, Written, RoundsAs}
 use Rattle.ends.specs.Directions.{direction_sign}
 use Rattle.ends.specs.declared.direction.Direction.TheVariants.{Exact}
+use Rattle.ends.specs.declared.rounded_end.Extent.{Extent}
 use Rattle.ends.specs.declared.rounded_end.RoundedEnd.{RoundedEnd}
 use Rattle.batch.specs.Term.{whole_units}
 use Rattle.batch.specs.TermKinds.{kind_number, zero_of_sign, number_of_sign}
@@ -95,19 +96,20 @@ module _ (negative : Bool) (u : ℤ → ℤ) (m : Mode) (ps : List Part) (room :
   answer_of_none e = subst (λ (l : List Part). plain (zero_of_sign negative) (pos 0) 0 room ≡ sum_answer negative u m l room) (sym e) refl
 
   module _ (r : RoundedEnd) (d a : ℕ) (told : RoundedTo u m ps r d a) where
-    pub answer_of_number : r.zero ≡ false
-        → ◌≡◌ {A = Published} (record { kind = kind_number (number_of_sign r.negative); exponent = r.exponent; precision = r.precision; direction = direction_sign r.direction; depth = d; limbs = limbs_of room a })
+    pub answer_of_number : (k : Extent) → r.extent ≡ Some k
+        → ◌≡◌ {A = Published} (record { kind = kind_number (number_of_sign r.negative); exponent = k.exponent; precision = k.precision; direction = direction_sign r.direction; depth = d; limbs = limbs_of room a })
         (sum_answer negative u m ps room)
-    answer_of_number z =
+    answer_of_number k is =
         let x = exact_sum ps in
         let v = (rounded u m x).value in
-        let e = r.exponent in
-        let p = r.precision in
+        let e = k.exponent in
+        let p = k.precision in
         let w = e -ℤ pos (32 * limbs_for p) in
-        let placed = told.placed z in
+        let placed : Placed u e p a = subst (λ (o : Option Extent). Written u o a) is told.limbs in
         let some = placed_some u e p a placed in
-        let same : v ≈ᴰ dyadic (signed r.negative a) w = told.rounds.values in
-        let there : Nonzero (dyadic (signed r.negative a) w) = λ h. let k : a ≡ 0 = sym (abs_signed r.negative a) ∙ ap nat_abs h in absurd (omega arith) in
+        let rounds = subst (λ (o : Option Extent). RoundsAs u m x r.negative o a (direction_sign r.direction)) is told.rounds in
+        let same : v ≈ᴰ dyadic (signed r.negative a) w = rounds.values in
+        let there : Nonzero (dyadic (signed r.negative a) w) = λ h. let z : a ≡ 0 = sym (abs_signed r.negative a) ∙ ap nat_abs h in absurd (omega arith) in
         let v_some : Nonzero v = nonzero_≈ (dyadic (signed r.negative a) w) v there (sym same) in
         let at_e : exponent v ≡ e = exponent_≈ v (dyadic (signed r.negative a) w) v_some same ∙ placed_exponent u e p a placed r.negative in
         let prec : gap (exponent v) (u (exponent v)) ≡ p = ap (λ (y : ℤ). gap y (u y)) at_e ∙ precision u e p a placed in
@@ -115,27 +117,27 @@ module _ (negative : Bool) (u : ℤ → ℤ) (m : Mode) (ps : List Part) (room :
         let digits = ap (whole_units (nat_abs v.count) v.weight) low ∙ units_≈ v r.negative a w same in
         published_alike (direction_sign r.direction) (rounded u m x).direction
         (ap (λ (b : Bool). kind_number (number_of_sign b)) (sym (negative_≈ v r.negative a w some same)))
-        (sym at_e) (sym prec) (sym told.rounds.directions) told.deep (ap (limbs_of room) (sym digits))
+        (sym at_e) (sym prec) (sym rounds.directions) told.deep (ap (limbs_of room) (sym digits))
         ∙ sym (cond-false _ _ _ (nonzero_test x (sum_nonzero u m x v_some)) ∙ cond-false _ _ _ (nonzero_test v v_some))
 
-    value_zero : r.zero ≡ true → (rounded u m (exact_sum ps)).value.count ≡ pos 0
-    value_zero z =
-        let w = r.exponent -ℤ pos (32 * limbs_for r.precision) in
-        none_≈ (rounded u m (exact_sum ps)).value (dyadic (signed r.negative a) w)
-        (abs_none (signed r.negative a) (abs_signed r.negative a ∙ told.none z)) told.rounds.values
+    module _ (is : r.extent ≡ None) where
+      told_zero : RoundsAs u m (exact_sum ps) r.negative None a (direction_sign r.direction)
+      told_zero = subst (λ (o : Option Extent). RoundsAs u m (exact_sum ps) r.negative o a (direction_sign r.direction)) is told.rounds
 
-    pub answer_of_exact_zero : r.zero ≡ true → r.direction ≡ Exact → plain (zero_of_sign negative) (direction_sign r.direction) d room ≡ sum_answer negative u m ps room
-    answer_of_exact_zero z is =
-        let none : direction_sign r.direction ≡ pos 0 = ap direction_sign is in
-        let zero = exact_zero u m (exact_sum ps) (value_zero z) (told.rounds.directions ∙ none) in
-        published_alike (direction_sign r.direction) (pos 0) refl refl refl none told.deep refl
-        ∙ sym (cond-true _ _ _ (zero_test (exact_sum ps) zero))
+      value_zero : (rounded u m (exact_sum ps)).value.count ≡ pos 0
+      value_zero = none_≈ (rounded u m (exact_sum ps)).value (dyadic (pos 0) (pos 0)) refl told_zero.values
 
-    pub answer_of_inexact_zero : r.zero ≡ true → ¬ (direction_sign r.direction ≡ pos 0)
-        → plain (zero_of_sign r.negative) (direction_sign r.direction) d room ≡ sum_answer negative u m ps room
-    answer_of_inexact_zero z is =
-        let x = exact_sum ps in
-        let some = inexact_nonzero u m x (λ e. is (sym told.rounds.directions ∙ e)) in
-        published_alike (direction_sign r.direction) (rounded u m x).direction
-        (ap (λ (b : Bool). kind_number (zero_of_sign b)) (sym told.rounds.signs)) refl refl (sym told.rounds.directions) told.deep refl
-        ∙ sym (cond-false _ _ _ (nonzero_test x some) ∙ cond-true _ _ _ (zero_test (rounded u m x).value (value_zero z)))
+      pub answer_of_exact_zero : r.direction ≡ Exact → plain (zero_of_sign negative) (direction_sign r.direction) d room ≡ sum_answer negative u m ps room
+      answer_of_exact_zero exact =
+          let none : direction_sign r.direction ≡ pos 0 = ap direction_sign exact in
+          let zero = exact_zero u m (exact_sum ps) value_zero (told_zero.directions ∙ none) in
+          published_alike (direction_sign r.direction) (pos 0) refl refl refl none told.deep refl
+          ∙ sym (cond-true _ _ _ (zero_test (exact_sum ps) zero))
+
+      pub answer_of_inexact_zero : ¬ (direction_sign r.direction ≡ pos 0) → plain (zero_of_sign r.negative) (direction_sign r.direction) d room ≡ sum_answer negative u m ps room
+      answer_of_inexact_zero inexact =
+          let x = exact_sum ps in
+          let some = inexact_nonzero u m x (λ e. inexact (sym told_zero.directions ∙ e)) in
+          published_alike (direction_sign r.direction) (rounded u m x).direction
+          (ap (λ (b : Bool). kind_number (zero_of_sign b)) (sym told_zero.signs)) refl refl (sym told_zero.directions) told.deep refl
+          ∙ sym (cond-false _ _ _ (nonzero_test x some) ∙ cond-true _ _ _ (zero_test (rounded u m x).value value_zero))

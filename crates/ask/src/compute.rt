@@ -25,8 +25,9 @@ fn copy_limbs(from: &[u32], limbs: &mut [u32])
     ensures { limbs.new ≡ limbs_of (length limbs.old) (limbs_value from.now) }
 {
     let copied = from.len().min(limbs.len());
-    limbs[..copied].copy_from_slice(&from[..copied]);
-    limbs[copied..].fill(0);
+    let (low, high) = limbs.split_at_mut(copied);
+    low.copy_from_slice(&from[..copied]);
+    high.fill(0);
 }
 
 fn is_downward(mode: Mode) -> bool
@@ -85,7 +86,7 @@ fn finite_answer<B: Batch, G: Grid>(
     limbs: &mut [u32],
 ) -> Answer
     requires { exact_zero_negative ≡ zero_negative (is_downward (mode_of rounding.mode)) (has (counted_kinds (shown marks.now) (B.Batch.terms batch.now))) }
-    ensures { published result limbs.new ≡ finite_answer (shown marks.now) (B.Batch.terms batch.now) (G.Grid.spacing rounding.grid.now) (mode_of rounding.mode) (length limbs.old) }
+    ensures { published result limbs.new ≡ finite_answer (shown marks.now) (B.Batch.terms batch.now) (G.Grid.spacing rounding.entry.grid.now) (mode_of rounding.entry.mode) (length limbs.old) }
 {
     let mut sum = [0u32; 128];
     match round_sum(batch, marks, rounding, &mut sum) {
@@ -101,12 +102,17 @@ pub fn compute<B: Batch, G: Grid>(
     rounding: Rounding<G>,
     limbs: &mut [u32],
 ) -> Answer
-    ensures { published result limbs.new ≡ answer (shown marks.now) (B.Batch.terms batch.now) (G.Grid.spacing rounding.grid.now) (mode_of rounding.mode) (length limbs.old) }
+    ensures { published result limbs.new ≡ answer (shown marks.now) (B.Batch.terms batch.now) (G.Grid.spacing rounding.entry.grid.now) (mode_of rounding.entry.mode) (length limbs.old) }
 {
     let kinds = KindsCounted::new(batch, marks);
     match kinds.class() {
         SumClass::NotANumber => plain_answer(Kind::NotANumber, Direction::Exact, 0, limbs),
-        SumClass::Infinite(negative) => plain_answer(Kind::infinity(negative), Direction::Exact, 0, limbs),
+        SumClass::Infinite(negative) => plain_answer(
+            Kind::infinity(negative),
+            Direction::Exact,
+            0,
+            limbs,
+        ),
         SumClass::Number => {
             let zero_negative = kinds.zero_is_negative(is_downward(rounding.mode));
             finite_answer(zero_negative, marks, batch, rounding, limbs)

@@ -3,13 +3,14 @@ use Rattle.std.proofs.Common.{length, Ok, sym, refl, ap, ◌∙◌, inl, inr}
 use Rattle.std.proofs.lemmas.Bool.{false≢true}
 use Rattle.sheet.specs.Shown.{shown}
 use Rattle.answers.specs.Asked.{question, answered}
+use Rattle.grid.specs.Rounding.{downward, upward}
 use Rattle.ask.specs.Both.{BothAsked}
 use Rattle.ask.proofs.Asking.{as_read}
 use Rattle.ask.proofs.Enclosing.{both_refused, both_right, both_enclose, both_reached}
 use Rattle.ask.proofs.both.ask_both.Goals as goal
 
-pub returns-in_err-down : goal.returns-in_err-down
-returns-in_err-down g c =
+pub returns-in_err-check : goal.returns-in_err-check
+returns-in_err-check g c =
     let ts = g.B.Batch.terms c.args.batch.now in
     let u = g.G.Grid.spacing c.args.grid.now in
     let w = g.G.Grid.widest c.args.grid.now in
@@ -18,9 +19,9 @@ returns-in_err-down g c =
     let shows = shown c.args.sheet.now.marks in
     let r = c.from_residual.result in
     let both : BothAsked shows (question ts u w 1 (length low)) (question ts u w 2 (length high)) r low high =
-    both_refused shows (question ts u w 1 (length low)) (question ts u w 2 (length high)) c.in_err-down.field-0.0 r low high c.from_residual.ensures.1
+    both_refused shows (question ts u w 1 (length low)) (question ts u w 2 (length high)) c.in_err-check.field-0.0 r low high c.from_residual.ensures.1
     (inl (sym (as_read _ _ c.width-width.result _ ts u 1 (length low) c.marks-marks.ensures.same c.width-width.ensures)
-    ∙ c.in_err-down.ensures ts u (sym c.count-terms.ensures))) in
+    ∙ c.in_err-check.ensures ts u 1 downward (sym c.count-terms.ensures) refl)) in
     let limited = g.B.Batch.limited c.args.batch.now in
     let lawful = g.G.Grid.lawful c.args.grid.now in
     record {
@@ -31,23 +32,23 @@ returns-in_err-down g c =
       reached = both_reached ts u w (length low) (length high) limited lawful c.args.sheet.now r low high both;
     }
 
-pub returns-in_err-up : goal.returns-in_err-up
-returns-in_err-up g c =
+pub returns-in_err-check-2 : goal.returns-in_err-check-2
+returns-in_err-check-2 g c =
     let ts = g.B.Batch.terms c.args.batch.now in
     let u = g.G.Grid.spacing c.args.grid.now in
     let w = g.G.Grid.widest c.args.grid.now in
     let low = c.args.low.now in
     let high = c.args.high.now in
     let shows = shown c.args.sheet.now.marks in
-    let r = c.from_residual-in_err-up.result in
+    let r = c.from_residual-in_err-check-2.result in
     let both : BothAsked shows (question ts u w 1 (length low)) (question ts u w 2 (length high)) r low high =
-    both_refused shows (question ts u w 1 (length low)) (question ts u w 2 (length high)) c.in_err-up.field-0.0 r low high c.from_residual-in_err-up.ensures.1
+    both_refused shows (question ts u w 1 (length low)) (question ts u w 2 (length high)) c.in_err-check-2.field-0.0 r low high c.from_residual-in_err-check-2.ensures.1
     (inr (
       _,
       sym (as_read _ _ c.width-width.result _ ts u 1 (length low) c.marks-marks.ensures.same c.width-width.ensures)
-          ∙ c.in_ok-down.ensures ts u (sym c.count-terms.ensures),
+          ∙ c.in_ok-check.ensures ts u 1 downward (sym c.count-terms.ensures) refl,
       sym (as_read _ _ c.width-width.result _ ts u 2 (length high) c.marks-marks.ensures.same c.width-width.ensures)
-          ∙ c.in_err-up.ensures ts u (sym c.count-terms.ensures),
+          ∙ c.in_err-check-2.ensures ts u 2 upward (sym c.count-terms.ensures) refl,
     )) in
     let limited = g.B.Batch.limited c.args.batch.now in
     let lawful = g.G.Grid.lawful c.args.grid.now in
@@ -66,17 +67,17 @@ returns g c =
     let w = g.G.Grid.widest c.args.grid.now in
     let j = length c.args.low.now in
     let k = length c.args.high.now in
-    let low = c.compute.new.limbs in
-    let high = c.compute-2.new.limbs in
+    let low = c.compute-down.new.limbs in
+    let high = c.compute-up.new.limbs in
     let shows = shown c.args.sheet.now.marks in
-    let r = Ok (c.compute.result, c.compute-2.result) in
+    let r = Ok (c.compute-down.result, c.compute-up.result) in
     let both : BothAsked shows (question ts u w 1 j) (question ts u w 2 k) r low high = (
       sym (as_read _ _ c.width-width.result _ ts u 1 j c.marks-marks.ensures.same c.width-width.ensures)
-          ∙ c.in_ok-down.ensures ts u (sym c.count-terms.ensures)
-          ∙ ap answered (sym c.compute.ensures),
+          ∙ c.in_ok-check.ensures ts u 1 downward (sym c.count-terms.ensures) refl
+          ∙ ap answered (sym c.compute-down.ensures),
       sym (as_read _ _ c.width-width.result _ ts u 2 k c.marks-marks.ensures.same c.width-width.ensures)
-          ∙ c.in_ok-up.ensures ts u (sym c.count-terms.ensures)
-          ∙ ap answered (sym c.compute-2.ensures),
+          ∙ c.in_ok-check-2.ensures ts u 2 upward (sym c.count-terms.ensures) refl
+          ∙ ap answered (sym c.compute-up.ensures),
     ) in
     let limited = g.B.Batch.limited c.args.batch.now in
     let lawful = g.G.Grid.lawful c.args.grid.now in

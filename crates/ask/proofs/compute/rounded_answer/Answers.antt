@@ -1,7 +1,6 @@
 -- The answer of a number, and those of a zero.
 use Rattle.std.proofs.Common.{◌≡◌, Bool, ◌⊎◌, length, pos, sym, refl, ap, ◌∙◌, inl, inr, arith, w32, rules}
 use Rattle.std.proofs.lemmas.Int.{ints, to_z-of_z}
-use Rattle.std.proofs.lemmas.Bool.{not-true, not-false}
 use Rattle.exact.specs.Limbs.{limbs_value}
 use Rattle.batch.specs.TermKinds.{kind_number, zero_of_sign}
 use Rattle.batch.specs.declared.kind.Kind.{Kind}
@@ -17,12 +16,13 @@ inexact : (d : Direction) → (d ≡ Below) ⊎ (d ≡ Above) → ¬ (direction_
 inexact d (inl e) z = let h = sym (ap direction_sign e) ∙ z in omega (arith, ints)
 inexact d (inr e) z = let h = sym (ap direction_sign e) ∙ z in omega (arith, ints)
 
-pub returns-then-not-end : goal.returns-then-not-end
-returns-then-not-end c u m ps told =
+pub returns-in-Some : goal.returns-in-Some
+returns-in-Some c u m ps told =
     let r = c.args.rounded.end in
+    let x = c.in-Some.extent in
     published_alike (direction_sign r.direction) (direction_sign r.direction)
-    (ap kind_number c.number_of_sign.ensures) (to_z-of_z w32 r.exponent (search rules)) refl refl refl c.copy_limbs.ensures
-    ∙ answer_of_number c.args.exact_zero_negative u m ps (length c.args.limbs.now) r c.args.rounded.depth (limbs_value c.args.sum.now) told (not-true r.zero c.if-not-end.true)
+    (ap kind_number c.regular.ensures) (to_z-of_z w32 x.exponent (search rules)) refl refl refl c.copy_limbs.ensures
+    ∙ answer_of_number c.args.exact_zero_negative u m ps (length c.args.limbs.now) r c.args.rounded.depth (limbs_value c.args.sum.now) told x c.in-Some.is
 
 pub returns : goal.returns
 returns c u m ps told =
@@ -31,10 +31,10 @@ returns c u m ps told =
     let a = limbs_value c.args.sum.now in
     let n = length c.args.limbs.now in
     c.plain_answer.ensures
-    ∙ ap (λ (k : Kind). plain k (direction_sign r.direction) d n) c.zero_of_sign.ensures
-    ∙ elim c.match-end.branch [
+    ∙ ap (λ (k : Kind). plain k (direction_sign r.direction) d n) c.zero.ensures
+    ∙ elim c.match-end-2.branch [
       | in-Exact w ↦ ap (λ (b : Bool). plain (zero_of_sign b) (direction_sign r.direction) d n) w.negative-is
-          ∙ answer_of_exact_zero c.args.exact_zero_negative u m ps n r d a told (not-false r.zero c.if-not-end.false) w.in-Exact.is
+          ∙ answer_of_exact_zero c.args.exact_zero_negative u m ps n r d a told c.in_default.is w.in-Exact.is
       | in-Below w ↦ ap (λ (b : Bool). plain (zero_of_sign b) (direction_sign r.direction) d n) w.negative-is
-          ∙ answer_of_inexact_zero c.args.exact_zero_negative u m ps n r d a told (not-false r.zero c.if-not-end.false) (inexact r.direction w.in-Below.is)
+          ∙ answer_of_inexact_zero c.args.exact_zero_negative u m ps n r d a told c.in_default.is (inexact r.direction w.in-Below.is)
     ]

@@ -2,9 +2,9 @@
 use Rattle.std.proofs.Common.{sym, ◌∙◌, arith}
 use Rattle.sheet.specs.Shown.{shown}
 use Rattle.ask.proofs.FoundPlaces.{lowest_within}
-use Rattle.ask.proofs.checking.allowed_mode.Goals as goal
+use Rattle.ask.proofs.checking.check.Goals as goal
 
 pub overflow_cast-result : goal.overflow_cast-result
 overflow_cast-result c =
-    let h = lowest_within (shown c.args.marks.now) c.args.terms c.in-Some-lowest_marked_from.place (sym c.in-Some-lowest_marked_from.is ∙ c.lowest_marked_from.ensures) in
+    let h = lowest_within (shown c.args.marks.now) c.args.terms c.in-Some.place (sym c.in-Some.is ∙ c.lowest_marked_from.ensures) in
     omega arith
