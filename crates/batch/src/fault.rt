@@ -29,6 +29,7 @@ pub enum BatchFault {
 }
 
 impl BatchFault {
+    // By hand: `as` takes no enum whose variants hold values.
     pub fn number(self) -> u32
         ensures { result ≡ fault_number self }
     {

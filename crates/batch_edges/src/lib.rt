@@ -17,16 +17,21 @@ mod list_tests;
 
 use batch::{BatchFault, regular_count};
 use limb_batch::{LimbBatch, LimbRecord};
-use list_batch::{ListBatch, Row, Scaled};
+use list_batch::{ListBatch, Record, Row, Scaled};
 
 pub fn regular_limbs(records: &[LimbRecord], pool: &[u32]) -> Result<usize, BatchFault>
     ensures refuses { result_err result ≡ opening_fault pool.now records.now }
     ensures counts { IfOk result (λ n. n ≡ regular_terms (record_terms pool.now records.now)) }
 {
-    let (batch, fault) = LimbBatch::open(records, pool);
-    if let Some(fault) = fault {
-        return Err(fault);
-    }
+    let batch = LimbBatch::open(records, pool)?;
+    Ok(regular_count(&batch))
+}
+
+pub fn regular_records<R: Record>(records: &[R]) -> Result<usize, BatchFault>
+    ensures refuses { result_err result ≡ list_fault (length (flat R.Record.parts records.now)) }
+    ensures counts { IfOk result (λ n. n ≡ regular_terms (flat R.Record.parts records.now)) }
+{
+    let batch = ListBatch::open(records)?;
     Ok(regular_count(&batch))
 }
 
@@ -34,14 +39,12 @@ pub fn regular_rows(rows: &[Row]) -> Result<usize, BatchFault>
     ensures refuses { result_err result ≡ list_fault (length (flat row_parts rows.now)) }
     ensures counts { IfOk result (λ n. n ≡ regular_terms (flat row_parts rows.now)) }
 {
-    let batch = ListBatch::open(rows)?;
-    Ok(regular_count(&batch))
+    regular_records(rows)
 }
 
 pub fn regular_scaled(records: &[Scaled]) -> Result<usize, BatchFault>
     ensures refuses { result_err result ≡ list_fault (length (flat scaled_parts records.now)) }
     ensures counts { IfOk result (λ n. n ≡ regular_terms (flat scaled_parts records.now)) }
 {
-    let batch = ListBatch::open(records)?;
-    Ok(regular_count(&batch))
+    regular_records(records)
 }

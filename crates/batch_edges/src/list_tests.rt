@@ -134,8 +134,7 @@ fn how_many_terms(rt: HostRuntime) -> Result<(), Fail> {
 }
 
 fn refused<T: Drop>(opened: Result<T, BatchFault>) -> bool {
-    match opened {
-        Ok(_) => false,
-        Err(fault) => fault.number() == 1 && fault.place() == 0,
-    }
+    opened
+        .err()
+        .is_some_and(|fault| (fault.number(), fault.place()) == (1, 0))
 }

@@ -14,5 +14,8 @@ returns-then-is_nan c =
       worth = e;
     }
 
-pub returns : goal.returns
-returns c = record { bits = search rules; back = search (rules, of_bits-to_bits); worth = search (rules, to_bits_lem) }
+pub returns-clause-back : goal.returns-clause-back
+returns-clause-back c = search (rules, of_bits-to_bits)
+
+pub returns-clause-worth : goal.returns-clause-worth
+returns-clause-worth c = search (rules, to_bits_lem)

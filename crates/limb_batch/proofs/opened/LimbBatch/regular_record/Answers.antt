@@ -1,12 +1,12 @@
 -- A record of a regular kind is there and has no fault.
-use Rattle.std.proofs.Common.{◌≡◌, ℕ, ◌+◌, ◌-◌, true, refl, ap, get_or, take, drop, pos, w64, rules, arith}
+use Rattle.std.proofs.Common.{◌≡◌, List, ℕ, ◌+◌, ◌-◌, true, refl, ap, get_or, take, drop, pos, w64, rules, arith}
 use Rattle.std.proofs.lemmas.Int.{to_z-of_z}
 use Rattle.batch.specs.TermKinds.{kind_is_regular}
 use Rattle.batch.specs.Lookup.{kind_of_term}
 use Rattle.batch.specs.declared.kind.Kind.{Kind}
 use Rattle.limb_batch.specs.declared.record.LimbRecord.{LimbRecord}
 use Rattle.limb_batch.specs.declared.opened.LimbBatch.{LimbBatch}
-use Rattle.limb_batch.specs.Records.{record_terms, significand}
+use Rattle.limb_batch.specs.Records.{limbs_for, record_terms, significand}
 use Rattle.limb_batch.specs.SoundRecords.{length_significand, size_significand}
 use Rattle.limb_batch.specs.Opening.{RegularAt}
 use Rattle.limb_batch.proofs.RecordTerms.{regular_there, term_there, spare_clear}
@@ -17,6 +17,10 @@ zeros = record { kind = 0; exponent = pos 0; precision = 0; place = 0 }
 
 found : (b : LimbBatch) (i : ℕ) (k : Kind) → k ≡ kind_of_term (record_terms b.pool.now b.records.now) i → true ≡ kind_is_regular k → RegularAt b.pool.now b.records.now i (get_or b.records.now i zeros)
 found b i k e f = regular_there b.pool.now b.records.now i zeros b.faultless true k e f refl
+
+-- the part of the pool that is read
+part_read : (pool : List ℕ) (r : LimbRecord) (n : ℕ) → n ≡ limbs_for r.precision → take (r.place + n - r.place) (drop r.place pool) ≡ significand pool r
+part_read pool r n e = ap (λ k. take k (drop r.place pool)) (omega arith)
 
 pub limb_count-count-requires : goal.limb_count-count-requires
 limb_count-count-requires c = (found c.args.self.now c.args.i _ c.kind.ensures c.if-not-is_regular.ensures).sound.in_range.few_digits
@@ -35,7 +39,7 @@ invariant_of-result c =
     let b = c.args.self.now in
     let h = (found b c.args.i _ c.kind.ensures c.if-not-is_regular.ensures).sound in
     let r = get_or b.records.now c.args.i zeros in
-    let part : take (r.place + c.limb_count-count.result - r.place) (drop r.place b.pool.now) ≡ significand b.pool.now r = ap (λ n. take n (drop r.place b.pool.now)) (omega (arith, c.limb_count-count.ensures)) in
+    let part = part_read b.pool.now r _ c.limb_count-count.ensures in
     let same = to_z-of_z w64 r.exponent (search rules) in
     record {
       few_digits = h.in_range.few_digits;
@@ -50,6 +54,6 @@ pub returns : goal.returns
 returns c =
     let b = c.args.self.now in
     let r = get_or b.records.now c.args.i zeros in
-    let part : take (r.place + c.limb_count-count.result - r.place) (drop r.place b.pool.now) ≡ significand b.pool.now r = ap (λ n. take n (drop r.place b.pool.now)) (omega (arith, c.limb_count-count.ensures)) in
+    let part = part_read b.pool.now r _ c.limb_count-count.ensures in
     let same = to_z-of_z w64 r.exponent (search rules) in
     rw (part, same) (term_there b.pool.now b.records.now c.args.i r (found b c.args.i _ c.kind.ensures c.if-not-is_regular.ensures))
