@@ -1,5 +1,5 @@
 -- One term more, that goes on below or not; no sum overflows; at the end all terms are gathered.
-use Rattle.std.proofs.Common.{◌≡◌, ◌+◌, Bool, cond, false, get_or, refl, sym, ap, ◌∙◌, subst, arith, w32, to_z, of_z}
+use Rattle.std.proofs.Common.{◌≡◌, ◌+◌, Bool, cond, false, get_or, sym, ap, ◌∙◌, subst, arith, w32, to_z, of_z}
 use Rattle.std.proofs.lemmas.Int.{to_z-of_z}
 use Rattle.column.specs.declared.term.CountedTerm.{CountedTerm}
 use Rattle.column.specs.CountedTerms.{listed_parts}
@@ -12,9 +12,6 @@ use Rattle.column.proofs.counted.CountedTerms.column_work.Goals.{then-reaches_be
 -- what the list has past its end
 abbrev nothing : CountedTerm
 nothing = record { place = 0; negative = false }
-
-pub loop-term-init : goal.loop-term-init
-loop-term-init g c = record { total = refl; below = refl }
 
 pub overflow_add-total : goal.overflow_add-total
 overflow_add-total g c =
