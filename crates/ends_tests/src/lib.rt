@@ -1,6 +1,7 @@
 // Examples of rounding one end, each proved and run.
 #![tactic(auto)]
 
+// Each case is written out: a function for all would have to repeat whatever `round_end` requires.
 #[cfg(test)]
 mod tests {
     use ends::{Direction, End, Extent, RoundedEnd, round_end};

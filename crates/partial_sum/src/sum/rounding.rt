@@ -59,6 +59,7 @@ impl PartialSum {
         ensures rounded { RoundedAt (G.Grid.spacing rounding.entry.grid.now) (mode_of rounding.entry.mode) end.partial (window self.now +ℤ end.offset) (column_weight self.now.lowest) result (limbs_value answer.new) }
         ensures limbs { (k : ℕ) → slice_index answer.new k < 2 ^ 32 }
     {
+        // In fixed memory, with room for the longest window; a shorter one takes the last of them.
         let mut limbs = [0u32; 131];
         let magnitude = &mut limbs[self.from..];
         let negative = self.settle_end(end, magnitude);
@@ -113,6 +114,7 @@ impl PartialSum {
         if lower == upper {
             return Some(first);
         }
+        // The upper end's answer stands in fixed memory of its own, as long as the lower end's.
         let mut other = [0u32; 128];
         let second = self.round_at(upper, rounding, &mut other)?;
         if first == second && answer[..] == other[..] {
