@@ -1,5 +1,6 @@
 -- What rounding the two ends one by one says of both.
 use Rattle.std.proofs.Common.{◌≡◌, ℕ, ◌^◌, ◌≤◌, Bool, true, false, ℤ, pos, ◌+ℤ◌, neg_ℤ, nat_abs, ◌<ℤ◌, Some, None, Option, sym, refl, ◌∙◌, subst, arith}
+use Rattle.std.proofs.lemmas.Bool.{false≢true}
 use borrow.Author.Differences.{ints}
 use Rattle.std.proofs.lemmas.Int.{by_lt_z}
 use Rattle.exact.specs.Integers.{scale}
@@ -13,7 +14,7 @@ use Rattle.grid.proofs.Everywhere.{laws_everywhere}
 use Rattle.grid.proofs.Monotone.{congruent}
 use Rattle.ends.specs.declared.rounded_end.RoundedEnd.{RoundedEnd}
 use Rattle.partial_sum.specs.Lying.{Lies}
-use Rattle.partial_sum.specs.Limits.{drop_between, Sound, InReach}
+use Rattle.partial_sum.specs.Limits.{drop_between, InReach}
 use Rattle.partial_sum.specs.Holding.{fields, window, held}
 use Rattle.partial_sum.specs.Ends.{lower_number, upper_number, LiesAt, Reached}
 use Rattle.partial_sum.specs.Rounded.{Uncertain, Certain, Undecided, Decided}
@@ -22,7 +23,7 @@ use Rattle.partial_sum.specs.declared.end.WindowEnd.{WindowEnd}
 use Rattle.partial_sum.proofs.Placing.{lies_once, sum_same}
 use Rattle.partial_sum.proofs.Ending.{last_lower, last_upper}
 use Rattle.partial_sum.proofs.Deciding.{full_determined, lower_apart, upper_apart}
-use Rattle.partial_sum.proofs.Unique.{same_from_alike, alike_from_same, not_both}
+use Rattle.partial_sum.proofs.Unique.{same_from_alike, alike_from_same}
 use Rattle.partial_sum.proofs.Resting.{rest_few, rest_none}
 
 -- the last two ends are one number
@@ -32,42 +33,42 @@ last_same p n =
     ≈ᴰ_trans (lower_number p n None) (dyadic (held p +ℤ pos 0) c) (upper_number p n None) (sum_same (held p) (neg_ℤ (pos 0)) c c (omega (arith, ints)) refl)
     (≈ᴰ_sym (upper_number p n None) (dyadic (held p +ℤ pos 0) c) (sum_same (held p) (pos 0) c c (omega (arith, ints)) refl))
 
-module _ (u : ℤ → ℤ) (W : ℕ) (L : Lawful u W) (m : Mode) (p : PartialSum) (s : Sound (fields p)) (reach : InReach p.lowest) (n : ℕ) where
+module _ (u : ℤ → ℤ) (W : ℕ) (L : Lawful u W) (m : Mode) (p : PartialSum) (reach : InReach p.lowest) (n : ℕ) where
   -- closed or open
   by_window : {P : Type 0} → (p.column <ℤ p.lowest → P) → (p.column ≡ p.lowest → P) → P
-  by_window closed here = by_lt_z p.column p.lowest closed (λ l. here (let o = s.shaped.order in omega (arith, ints)))
+  by_window closed here = by_lt_z p.column p.lowest closed (λ l. here (let o = p.sound.shaped.order in omega (arith, ints)))
 
   nothing_left : p.column ≡ p.lowest → nat_abs p.rest ≤ 1024
-  nothing_left here = let z = s.shaped.open_rest here in omega (arith, ints)
+  nothing_left here = let z = p.sound.shaped.open_rest here in omega (arith, ints)
 
   pub undecided_lower : (below : Option ℤ) → Reached p n below → (e : WindowEnd) → nat_abs e.offset ≤ 2 ^ 44 → LiesAt p e (lower_number p n below) → (e.partial ≡ true) × Uncertain u (window p +ℤ e.offset) (column_weight p.lowest) → Undecided u m p n below
   undecided_lower None reached e few lies (part, uncertain) =
-      by_window (λ closed. absurd (full_determined u W L p e.offset s closed reach few uncertain))
+      by_window (λ closed. absurd (full_determined u W L p e.offset closed reach few uncertain))
       (λ here.
-      (let z : p.rest ≡ scale (pos 0) (drop_between p.lowest p.column) = s.shaped.open_rest here ∙ sym (zero_scale (drop_between p.lowest p.column)) in
+      (let z : p.rest ≡ scale (pos 0) (drop_between p.lowest p.column) = p.sound.shaped.open_rest here ∙ sym (zero_scale (drop_between p.lowest p.column)) in
       let w = column_weight p.lowest in
-      not_both (lies_once false (window p +ℤ pos 0) (window p +ℤ e.offset) w (lower_number p n None) (last_lower p record { offset = pos 0; partial = false } n p.rest s z refl) (subst (λ (b : Bool). Lies b (window p +ℤ e.offset) w (lower_number p n None)) part lies)).0))
+      false≢true (lies_once false (window p +ℤ pos 0) (window p +ℤ e.offset) w (lower_number p n None) (last_lower p record { offset = pos 0; partial = false } n p.rest z refl) (subst (λ (b : Bool). Lies b (window p +ℤ e.offset) w (lower_number p n None)) part lies)).0))
   undecided_lower (Some d) reached e few lies (part, uncertain) =
-      by_window (λ closed. absurd (full_determined u W L p e.offset s closed reach few uncertain))
+      by_window (λ closed. absurd (full_determined u W L p e.offset closed reach few uncertain))
       (λ here. record {
-        apart = lower_apart u (laws_everywhere u W L) m p s here n d reached (window p +ℤ e.offset) (subst (λ (b : Bool). Lies b (window p +ℤ e.offset) (column_weight p.lowest) (lower_number p n (Some d))) part lies) uncertain;
+        apart = lower_apart u (laws_everywhere u W L) m p here n d reached (window p +ℤ e.offset) (subst (λ (b : Bool). Lies b (window p +ℤ e.offset) (column_weight p.lowest) (lower_number p n (Some d))) part lies) uncertain;
         rest_few = nothing_left here;
-        rest_none = λ _. s.shaped.open_rest here;
+        rest_none = λ _. p.sound.shaped.open_rest here;
       })
 
   pub undecided_upper : (below : Option ℤ) → Reached p n below → (e : WindowEnd) → nat_abs e.offset ≤ 2 ^ 44 → LiesAt p e (upper_number p n below) → (e.partial ≡ true) × Uncertain u (window p +ℤ e.offset) (column_weight p.lowest) → Undecided u m p n below
   undecided_upper None reached e few lies (part, uncertain) =
-      by_window (λ closed. absurd (full_determined u W L p e.offset s closed reach few uncertain))
+      by_window (λ closed. absurd (full_determined u W L p e.offset closed reach few uncertain))
       (λ here.
-      (let z : p.rest ≡ scale (pos 0) (drop_between p.lowest p.column) = s.shaped.open_rest here ∙ sym (zero_scale (drop_between p.lowest p.column)) in
+      (let z : p.rest ≡ scale (pos 0) (drop_between p.lowest p.column) = p.sound.shaped.open_rest here ∙ sym (zero_scale (drop_between p.lowest p.column)) in
       let w = column_weight p.lowest in
-      not_both (lies_once false (window p +ℤ pos 0) (window p +ℤ e.offset) w (upper_number p n None) (last_upper p record { offset = pos 0; partial = false } n p.rest s z refl) (subst (λ (b : Bool). Lies b (window p +ℤ e.offset) w (upper_number p n None)) part lies)).0))
+      false≢true (lies_once false (window p +ℤ pos 0) (window p +ℤ e.offset) w (upper_number p n None) (last_upper p record { offset = pos 0; partial = false } n p.rest z refl) (subst (λ (b : Bool). Lies b (window p +ℤ e.offset) w (upper_number p n None)) part lies)).0))
   undecided_upper (Some d) reached e few lies (part, uncertain) =
-      by_window (λ closed. absurd (full_determined u W L p e.offset s closed reach few uncertain))
+      by_window (λ closed. absurd (full_determined u W L p e.offset closed reach few uncertain))
       (λ here. record {
-        apart = upper_apart u (laws_everywhere u W L) m p s here n d reached (window p +ℤ e.offset) (subst (λ (b : Bool). Lies b (window p +ℤ e.offset) (column_weight p.lowest) (upper_number p n (Some d))) part lies) uncertain;
+        apart = upper_apart u (laws_everywhere u W L) m p here n d reached (window p +ℤ e.offset) (subst (λ (b : Bool). Lies b (window p +ℤ e.offset) (column_weight p.lowest) (upper_number p n (Some d))) part lies) uncertain;
         rest_few = nothing_left here;
-        rest_none = λ _. s.shaped.open_rest here;
+        rest_none = λ _. p.sound.shaped.open_rest here;
       })
 
   module _ (below : Option ℤ) (reached : Reached p n below) (e f : WindowEnd) (lower : LiesAt p e (lower_number p n below)) (upper : LiesAt p f (upper_number p n below)) (r q : RoundedEnd) (a b : ℕ)
@@ -95,6 +96,6 @@ module _ (u : ℤ → ℤ) (W : ℕ) (L : Lawful u W) (m : Mode) (p : PartialSum
       apart_where_differ None reached e f lower upper r q a b one two answers (congruent u (laws_everywhere u W L) m (lower_number p n None) (upper_number p n None) (last_same p n))
   undecided (Some d) reached e f lower upper r q a b one two ends answers = record {
     apart = apart_where_differ (Some d) reached e f lower upper r q a b one two answers;
-    rest_few = by_window (λ closed. rest_few p n d s closed reached e f lower upper ends) nothing_left;
-    rest_none = λ far. by_window (λ closed. rest_none p n d s closed reached e f lower upper ends far) (λ here. s.shaped.open_rest here);
+    rest_few = by_window (λ closed. rest_few p n d closed reached e f lower upper ends) nothing_left;
+    rest_none = λ far. by_window (λ closed. rest_none p n d closed reached e f lower upper ends far) (λ here. p.sound.shaped.open_rest here);
   }

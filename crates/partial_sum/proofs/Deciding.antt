@@ -11,7 +11,7 @@ use Rattle.grid.specs.Rounding.{Mode, rounded, Alike}
 use Rattle.grid.proofs.Everywhere.{LawsEverywhere, laws_everywhere}
 use Rattle.grid.proofs.Apart.{apart}
 use Rattle.partial_sum.specs.Lying.{Lies}
-use Rattle.partial_sum.specs.Limits.{Sound, InReach}
+use Rattle.partial_sum.specs.Limits.{InReach}
 use Rattle.partial_sum.specs.Holding.{fields, window, held}
 use Rattle.partial_sum.specs.Ends.{number_held, lower_number, upper_number, Reached}
 use Rattle.partial_sum.specs.Rounded.{Uncertain}
@@ -41,14 +41,14 @@ coarse u W L w n from upto long =
     omega (arith, ints)
 
 -- so next to a full window everything is determined
-pub full_determined : (u : ℤ → ℤ) (W : ℕ) → Lawful u W → (p : PartialSum) (a : ℤ) → Sound (fields p) → p.column <ℤ p.lowest → InReach p.lowest → nat_abs a ≤ 2 ^ 44
+pub full_determined : (u : ℤ → ℤ) (W : ℕ) → Lawful u W → (p : PartialSum) (a : ℤ) → p.column <ℤ p.lowest → InReach p.lowest → nat_abs a ≤ 2 ^ 44
     → ¬ Uncertain u (window p +ℤ a) (column_weight p.lowest)
-full_determined u W L p a s closed reach few uncertain =
+full_determined u W L p a closed reach few uncertain =
     let from = reach.from in
     let upto = reach.upto in
     let w = column_weight p.lowest in
     let n = uncertain.magnitude in
-    let long = magnitude_long p uncertain.negative n a s (s.shaped.closed_full closed) few uncertain.meant in
+    let long = magnitude_long p uncertain.negative n a (p.sound.shaped.closed_full closed) few uncertain.meant in
     let above = coarse u W L w (size n) (omega (arith, ints)) (omega (arith, ints)) long in
     let fine = uncertain.fine in
     omega (arith, ints)
@@ -63,17 +63,17 @@ module _ (p : PartialSum) (n : ℕ) (d : ℤ) (reached : Reached p n (Some d)) w
   upper_more = let below = reached.0 in let some = reached.1 in sum_more (held p) (pos n) (column_weight p.column) (column_weight (d +ℤ pos 1)) (omega (arith, ints)) (omega (arith, ints))
 
 -- the sum in units of the window
-pub whole_units : (p : PartialSum) → Sound (fields p) → p.column ≡ p.lowest → number_held p ≡ dyadic (window p) (column_weight p.lowest)
-whole_units p s here = ap (λ (z : ℤ). dyadic z (column_weight p.column)) (held_open (fields p) (sym here) (s.shaped.open_rest here)) ∙ ap (λ (c : ℤ). dyadic (window p) (column_weight c)) here
+pub whole_units : (p : PartialSum) → p.column ≡ p.lowest → number_held p ≡ dyadic (window p) (column_weight p.lowest)
+whole_units p here = ap (λ (z : ℤ). dyadic z (column_weight p.column)) (held_open (fields p) (sym here) (p.sound.shaped.open_rest here)) ∙ ap (λ (c : ℤ). dyadic (window p) (column_weight c)) here
 
-module _ (u : ℤ → ℤ) (S : LawsEverywhere u) (m : Mode) (p : PartialSum) (s : Sound (fields p)) (here : p.column ≡ p.lowest) (n : ℕ) (d : ℤ) (reached : Reached p n (Some d)) where
+module _ (u : ℤ → ℤ) (S : LawsEverywhere u) (m : Mode) (p : PartialSum) (here : p.column ≡ p.lowest) (n : ℕ) (d : ℤ) (reached : Reached p n (Some d)) where
   pub lower_apart : (v : ℤ) → Lies true v (column_weight p.lowest) (lower_number p n (Some d)) → Uncertain u v (column_weight p.lowest) → ¬ Alike (rounded u m (lower_number p n (Some d))) (rounded u m (upper_number p n (Some d)))
   lower_apart v (l, g) uncertain =
       let w = column_weight p.lowest in
       let x = lower_number p n (Some d) in
       let y = upper_number p n (Some d) in
-      let under : x <ᴰ dyadic (window p) w = subst (λ (z : Dyadic). x <ᴰ z) (whole_units p s here) (lower_less p n d reached) in
-      let over : dyadic (window p) w <ᴰ y = subst (λ (z : Dyadic). z <ᴰ y) (whole_units p s here) (upper_more p n d reached) in
+      let under : x <ᴰ dyadic (window p) w = subst (λ (z : Dyadic). x <ᴰ z) (whole_units p here) (lower_less p n d reached) in
+      let over : dyadic (window p) w <ᴰ y = subst (λ (z : Dyadic). z <ᴰ y) (whole_units p here) (upper_more p n d reached) in
       let less : v <ℤ window p = unit_lt v (window p) w (<ᴰ_trans (dyadic v w) x (dyadic (window p) w) l under) in
       let next : dyadic (v +ℤ pos 1) w ≤ᴰ dyadic (window p) w = unit_le (v +ℤ pos 1) (window p) w (omega (arith, ints)) in
       apart u S m x (dyadic (v +ℤ pos 1) w) y uncertain.high g (≤ᴰ_<ᴰ_trans (dyadic (v +ℤ pos 1) w) (dyadic (window p) w) y next over)
@@ -83,8 +83,8 @@ module _ (u : ℤ → ℤ) (S : LawsEverywhere u) (m : Mode) (p : PartialSum) (s
       let w = column_weight p.lowest in
       let x = lower_number p n (Some d) in
       let y = upper_number p n (Some d) in
-      let under : x <ᴰ dyadic (window p) w = subst (λ (z : Dyadic). x <ᴰ z) (whole_units p s here) (lower_less p n d reached) in
-      let over : dyadic (window p) w <ᴰ y = subst (λ (z : Dyadic). z <ᴰ y) (whole_units p s here) (upper_more p n d reached) in
+      let under : x <ᴰ dyadic (window p) w = subst (λ (z : Dyadic). x <ᴰ z) (whole_units p here) (lower_less p n d reached) in
+      let over : dyadic (window p) w <ᴰ y = subst (λ (z : Dyadic). z <ᴰ y) (whole_units p here) (upper_more p n d reached) in
       let more : window p <ℤ (v +ℤ pos 1) = unit_lt (window p) (v +ℤ pos 1) w (<ᴰ_trans (dyadic (window p) w) y (dyadic (v +ℤ pos 1) w) over g) in
       let next : dyadic (window p) w ≤ᴰ dyadic v w = unit_le (window p) v w (omega (arith, ints)) in
       apart u S m x (dyadic v w) y uncertain.low (<ᴰ_≤ᴰ_trans x (dyadic (window p) w) (dyadic v w) under next) l

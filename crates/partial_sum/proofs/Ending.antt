@@ -5,17 +5,17 @@ use Rattle.exact.specs.Integers.{gap, scale}
 use Rattle.exact.specs.Dyadic.{Dyadic, dyadic, ◌<ᴰ◌, ◌≈ᴰ◌}
 use Rattle.batch.specs.Term.{column_weight}
 use Rattle.partial_sum.specs.Lying.{Placed, Lies}
-use Rattle.partial_sum.specs.Limits.{drop_between, Sound}
-use Rattle.partial_sum.specs.Holding.{fields, window, held}
+use Rattle.partial_sum.specs.Limits.{drop_between}
+use Rattle.partial_sum.specs.Holding.{window, held}
 use Rattle.partial_sum.specs.Ends.{lower_number, upper_number, LiesAt, PlacedAt, Between}
 use Rattle.partial_sum.specs.declared.sum.PartialSum.{PartialSum}
 use Rattle.partial_sum.specs.declared.end.WindowEnd.{WindowEnd}
 use Rattle.partial_sum.proofs.Placing.{lies_from, lies_between, lies_same, sum_same, sum_above, sum_below}
 
 -- the sum changed by n units of its own column
-same_column : (p : PartialSum) (e : WindowEnd) (n : ℤ) (x : Dyadic) → Sound (fields p) → x ≈ᴰ dyadic (held p +ℤ n) (column_weight p.column) → PlacedAt p e (p.rest +ℤ n) → LiesAt p e x
-same_column p e n x s same placed =
-    let order = s.shaped.order in
+same_column : (p : PartialSum) (e : WindowEnd) (n : ℤ) (x : Dyadic) → x ≈ᴰ dyadic (held p +ℤ n) (column_weight p.column) → PlacedAt p e (p.rest +ℤ n) → LiesAt p e x
+same_column p e n x same placed =
+    let order = p.sound.shaped.order in
     let k = drop_between p.lowest p.column in
     let all : scale (window p) k +ℤ (p.rest +ℤ n) ≡ held p +ℤ n = (let m : (a b c : ℤ) → a +ℤ (b +ℤ c) ≡ (a +ℤ b) +ℤ c = λ a b c. omega (arith, ints) in m (scale (window p) k) p.rest n) in
     lies_same e.partial (window p +ℤ e.offset) (column_weight p.lowest) x (dyadic (held p +ℤ n) (column_weight p.column)) same
@@ -23,25 +23,25 @@ same_column p e n x s same placed =
     (lies_from e.partial (window p) (p.rest +ℤ n) e.offset (column_weight p.column) (column_weight p.lowest) (omega (arith, ints)) placed))
 
 -- without a column below
-pub last_lower : (p : PartialSum) (e : WindowEnd) (n : ℕ) (units : ℤ) → Sound (fields p) → PlacedAt p e units → units ≡ p.rest → LiesAt p e (lower_number p n None)
-last_lower p e n units s placed is =
-    same_column p e (pos 0) (lower_number p n None) s (sum_same (held p) (neg_ℤ (pos 0)) (column_weight p.column) (column_weight p.column) (omega (arith, ints)) refl)
+pub last_lower : (p : PartialSum) (e : WindowEnd) (n : ℕ) (units : ℤ) → PlacedAt p e units → units ≡ p.rest → LiesAt p e (lower_number p n None)
+last_lower p e n units placed is =
+    same_column p e (pos 0) (lower_number p n None) (sum_same (held p) (neg_ℤ (pos 0)) (column_weight p.column) (column_weight p.column) (omega (arith, ints)) refl)
     (subst (λ (z : ℤ). PlacedAt p e z) (let m : units ≡ p.rest +ℤ pos 0 = omega (arith, ints) in m) placed)
 
-pub last_upper : (p : PartialSum) (e : WindowEnd) (n : ℕ) (units : ℤ) → Sound (fields p) → PlacedAt p e units → units ≡ p.rest → LiesAt p e (upper_number p n None)
-last_upper p e n units s placed is =
-    same_column p e (pos 0) (upper_number p n None) s (sum_same (held p) (pos 0) (column_weight p.column) (column_weight p.column) (omega (arith, ints)) refl)
+pub last_upper : (p : PartialSum) (e : WindowEnd) (n : ℕ) (units : ℤ) → PlacedAt p e units → units ≡ p.rest → LiesAt p e (upper_number p n None)
+last_upper p e n units placed is =
+    same_column p e (pos 0) (upper_number p n None) (sum_same (held p) (pos 0) (column_weight p.column) (column_weight p.column) (omega (arith, ints)) refl)
     (subst (λ (z : ℤ). PlacedAt p e z) (let m : units ≡ p.rest +ℤ pos 0 = omega (arith, ints) in m) placed)
 
 -- before the next column
-pub next_lower : (p : PartialSum) (e : WindowEnd) (n : ℕ) (d units : ℤ) → Sound (fields p) → d +ℤ pos 1 ≡ p.column → PlacedAt p e units → units ≡ p.rest -ℤ pos n → LiesAt p e (lower_number p n (Some d))
-next_lower p e n d units s next placed is =
-    same_column p e (neg_ℤ (pos n)) (lower_number p n (Some d)) s (sum_same (held p) (neg_ℤ (pos n)) (column_weight p.column) (column_weight (d +ℤ pos 1)) (omega (arith, ints)) (ap column_weight (sym next)))
+pub next_lower : (p : PartialSum) (e : WindowEnd) (n : ℕ) (d units : ℤ) → d +ℤ pos 1 ≡ p.column → PlacedAt p e units → units ≡ p.rest -ℤ pos n → LiesAt p e (lower_number p n (Some d))
+next_lower p e n d units next placed is =
+    same_column p e (neg_ℤ (pos n)) (lower_number p n (Some d)) (sum_same (held p) (neg_ℤ (pos n)) (column_weight p.column) (column_weight (d +ℤ pos 1)) (omega (arith, ints)) (ap column_weight (sym next)))
     (subst (λ (z : ℤ). PlacedAt p e z) is placed)
 
-pub next_upper : (p : PartialSum) (e : WindowEnd) (n : ℕ) (d units : ℤ) → Sound (fields p) → d +ℤ pos 1 ≡ p.column → PlacedAt p e units → units ≡ p.rest +ℤ pos n → LiesAt p e (upper_number p n (Some d))
-next_upper p e n d units s next placed is =
-    same_column p e (pos n) (upper_number p n (Some d)) s (sum_same (held p) (pos n) (column_weight p.column) (column_weight (d +ℤ pos 1)) (omega (arith, ints)) (ap column_weight (sym next)))
+pub next_upper : (p : PartialSum) (e : WindowEnd) (n : ℕ) (d units : ℤ) → d +ℤ pos 1 ≡ p.column → PlacedAt p e units → units ≡ p.rest +ℤ pos n → LiesAt p e (upper_number p n (Some d))
+next_upper p e n d units next placed is =
+    same_column p e (pos n) (upper_number p n (Some d)) (sum_same (held p) (pos n) (column_weight p.column) (column_weight (d +ℤ pos 1)) (omega (arith, ints)) (ap column_weight (sym next)))
     (subst (λ (z : ℤ). PlacedAt p e z) is placed)
 
 -- before a gap: fewer than 2 ^ 32 units of a column further down are less than one unit of the sum's column
@@ -51,10 +51,10 @@ less_than_unit c d n few far =
     let big : 2 ^ 32 ≤ 2 ^ gap (column_weight c) (column_weight (d +ℤ pos 1)) = pow_mono k in
     omega arith
 
-module _ (p : PartialSum) (n : ℕ) (d : ℤ) (s : Sound (fields p)) (far : (d +ℤ pos 1) <ℤ p.column) (some : 0 < n) (few : n ≤ 1024) where
+module _ (p : PartialSum) (n : ℕ) (d : ℤ) (far : (d +ℤ pos 1) <ℤ p.column) (some : 0 < n) (few : n ≤ 1024) where
   pub gap_upper : (e : WindowEnd) (units : ℤ) → e.partial ≡ true → Between p units e.offset → units ≡ p.rest → LiesAt p e (upper_number p n (Some d))
   gap_upper e units between (partial, placed) is =
-      let order = s.shaped.order in
+      let order = p.sound.shaped.order in
       let x = upper_number p n (Some d) in
       let little = less_than_unit p.column d n few far in
       let both = sum_above (held p) (pos n) (column_weight p.column) (column_weight (d +ℤ pos 1)) (omega (arith, ints)) (omega (arith, ints)) (omega (arith, ints)) in
@@ -64,7 +64,7 @@ module _ (p : PartialSum) (n : ℕ) (d : ℤ) (s : Sound (fields p)) (far : (d +
 
   pub gap_lower : (e : WindowEnd) (units : ℤ) → e.partial ≡ true → Between p units e.offset → units ≡ p.rest -ℤ pos 1 → LiesAt p e (lower_number p n (Some d))
   gap_lower e units between (partial, placed) is =
-      let order = s.shaped.order in
+      let order = p.sound.shaped.order in
       let w = column_weight p.column in
       let x = lower_number p n (Some d) in
       let little = less_than_unit p.column d n few far in

@@ -9,8 +9,7 @@ use Rattle.exact.specs.Integers.{scale}
 use Rattle.exact.proofs.Scaling.{scale_none, scale_scale, scale_abs}
 use Rattle.exact.proofs.LimbBits.{pow_next_limb}
 use Rattle.totals.specs.Totals.{totals_value}
-use Rattle.partial_sum.specs.Limits.{Sound}
-use Rattle.partial_sum.specs.Holding.{fields, slot, head, window}
+use Rattle.partial_sum.specs.Holding.{slot, head, window}
 use Rattle.partial_sum.specs.Ends.{Meant}
 use Rattle.partial_sum.specs.declared.sum.PartialSum.{PartialSum}
 use Rattle.partial_sum.proofs.Windows.{value_below}
@@ -42,28 +41,28 @@ far_from_none k low high deep small large =
     omega (arith, ints)
 
 -- the two highest totals of a window that is longer
-pub top_large : (p : PartialSum) → Sound (fields p) → p.from < 129 → 2 ^ 32 ≤ nat_abs (totals_value (drop 128 p.totals))
-top_large p s long =
+pub top_large : (p : PartialSum) → p.from < 129 → 2 ^ 32 ≤ nat_abs (totals_value (drop 128 p.totals))
+top_large p long =
     let value : totals_value (drop 128 p.totals) ≡ slot p 128 +ℤ scale (totals_value (drop 129 p.totals)) 32 = ap totals_value (drop_more p.totals 128 (pos 0) (omega (arith, p.whole))) ∙ value_below (slot p 128) (drop 129 p.totals) in
     let top : totals_value (drop 129 p.totals) ≡ head p = head_alone p.totals p.whole in
-    let some = s.shaped.head_some long in
-    let second = s.all_totals 128 (omega arith) in
+    let some = p.sound.shaped.head_some long in
+    let second = p.sound.all_totals 128 (omega arith) in
     ⊎_elim
-    (λ (small : nat_abs (head p) < 2 ^ 20). (let none = s.shaped.head_large long small in omega (arith, ints)))
+    (λ (small : nat_abs (head p) < 2 ^ 20). (let none = p.sound.shaped.head_large long small in omega (arith, ints)))
     (λ (large : 2 ^ 20 ≤ nat_abs (head p)). omega (arith, ints))
     (cases_lt (nat_abs (head p)) (2 ^ 20))
 
-pub window_large : (p : PartialSum) (k : ℕ) → Sound (fields p) → p.from ≡ 0 → k ≡ 32 * 128 → 2 ^ 31 * 2 ^ k + 2 ^ 50 ≤ nat_abs (window p)
-window_large p k s full e =
+pub window_large : (p : PartialSum) (k : ℕ) → p.from ≡ 0 → k ≡ 32 * 128 → 2 ^ 31 * 2 ^ k + 2 ^ 50 ≤ nat_abs (window p)
+window_large p k full e =
     let ts = p.totals in
     let long : length (take 128 ts) ≡ 128 = length-take-le 128 ts (omega (arith, p.whole)) in
     let low : 4294967295 * nat_abs (totals_value (take 128 ts)) + 2 ^ 43 ≤ 2 ^ 43 * 2 ^ (32 * length (take 128 ts)) =
-    low_bound (take 128 ts) (λ j l. (let h = s.all_totals j (omega arith) in let g = get_or-take 128 ts j (pos 0) (omega arith) in omega (arith, ints))) in
+    low_bound (take 128 ts) (λ j l. (let h = p.sound.all_totals j (omega arith) in let g = get_or-take 128 ts j (pos 0) (omega arith) in omega (arith, ints))) in
     let width : 32 * length (take 128 ts) ≡ k = ap (λ (n : ℕ). 32 * n) long ∙ sym e in
     let parts : totals_value ts ≡ totals_value (take 128 ts) +ℤ scale (totals_value (drop 128 ts)) (32 * 128) = value_parts 128 ts (omega (arith, p.whole)) in
     let whole : window p ≡ totals_value (take 128 ts) +ℤ scale (totals_value (drop 128 ts)) k = ap (λ (i : ℕ). totals_value (drop i ts)) full ∙ parts ∙ ap (λ (i : ℕ). totals_value (take 128 ts) +ℤ scale (totals_value (drop 128 ts)) i) (sym e) in
     subst (λ (z : ℤ). 2 ^ 31 * 2 ^ k + 2 ^ 50 ≤ nat_abs z) (sym whole)
-    (far_from_none k (totals_value (take 128 ts)) (totals_value (drop 128 ts)) (omega arith) (subst (λ (n : ℕ). 4294967295 * nat_abs (totals_value (take 128 ts)) + 2 ^ 43 ≤ 2 ^ 43 * 2 ^ n) width low) (top_large p s (omega arith)))
+    (far_from_none k (totals_value (take 128 ts)) (totals_value (drop 128 ts)) (omega arith) (subst (λ (n : ℕ). 4294967295 * nat_abs (totals_value (take 128 ts)) + 2 ^ 43 ≤ 2 ^ 43 * 2 ^ n) width low) (top_large p (omega arith)))
 
 -- ---- the length of a magnitude next to it
 long_enough : (n k : ℕ) → 2 ^ 31 * 2 ^ k ≤ n → 32 + k ≤ size n
@@ -75,8 +74,8 @@ meant_large : (s : Bool) (n k : ℕ) (a v : ℤ) → nat_abs a ≤ 2 ^ 44 → 2 
 meant_large false n k a v few large e = omega (arith, ints)
 meant_large true n k a v few large e = omega (arith, ints)
 
-pub magnitude_long : (p : PartialSum) (s : Bool) (n : ℕ) (a : ℤ) → Sound (fields p) → p.from ≡ 0 → nat_abs a ≤ 2 ^ 44 → Meant s true n (window p +ℤ a) → 4128 ≤ size n
-magnitude_long p s n a sound full few meant = at 4096 refl
+pub magnitude_long : (p : PartialSum) (s : Bool) (n : ℕ) (a : ℤ) → p.from ≡ 0 → nat_abs a ≤ 2 ^ 44 → Meant s true n (window p +ℤ a) → 4128 ≤ size n
+magnitude_long p s n a full few meant = at 4096 refl
   where
     at : (k : ℕ) → k ≡ 4096 → 4128 ≤ size n
-    at k e = (let h = long_enough n k (meant_large s n k a (window p) few (window_large p k sound full e) meant) in omega arith)
+    at k e = (let h = long_enough n k (meant_large s n k a (window p) few (window_large p k full e) meant) in omega arith)

@@ -1,5 +1,6 @@
 -- What the sign and the magnitude of an end stand for.
 use Rattle.std.proofs.Common.{◌≡◌, ℕ, zero, suc, ◌+◌, ◌^◌, ◌<◌, Bool, true, false, ℤ, pos, negsuc, ◌+ℤ◌, neg_ℤ, nat_abs, sym, refl, ap, subst, arith}
+use Rattle.std.proofs.lemmas.Bool.{false≢true}
 use lib.Ieee.{size}
 use lib.Ieee.Digits.{size-lt}
 use borrow.Author.Differences.{ints}
@@ -12,23 +13,14 @@ use Rattle.partial_sum.specs.Ends.{Meant}
 
 pub meant_plus : (partial : Bool) (v : ℤ) → is_negative v ≡ false → Meant false partial (nat_abs v) v
 meant_plus partial (pos n) e = refl
-meant_plus partial (negsuc n) e = absurd (not_both (sym e))
-  where
-    not_both : false ≡ true → ⊥
-    not_both e = grind arith
+meant_plus partial (negsuc n) e = absurd (false≢true (sym e))
 
 pub meant_minus : (v : ℤ) → is_negative v ≡ true → Meant true false (nat_abs v) v
-meant_minus (pos n) e = absurd (not_both e)
-  where
-    not_both : false ≡ true → ⊥
-    not_both e = grind arith
+meant_minus (pos n) e = absurd (false≢true e)
 meant_minus (negsuc n) e = (omega (arith, ints), omega (arith, ints))
 
 pub meant_part : (v : ℤ) → is_negative v ≡ true → Meant true true (nat_abs (v +ℤ pos 1)) v
-meant_part (pos n) e = absurd (not_both e)
-  where
-    not_both : false ≡ true → ⊥
-    not_both e = grind arith
+meant_part (pos n) e = absurd (false≢true e)
 meant_part (negsuc n) e = omega (arith, ints)
 
 -- each number that lies there is one that the end stands for

@@ -23,9 +23,6 @@ placed_below k n high few minus =
     let one : scale (negsuc 0) k ≡ neg_ℤ (pos (2 ^ k)) = omega (arith, ints) in
     (omega (arith, ints), omega (arith, ints))
 
-pub placed_none : (k : ℕ) → Placed false k (pos 0) (pos 0)
-placed_none k = sym (zero_scale k)
-
 -- ---- units at two weights
 pub ≤ᴰ_<ᴰ_trans : (x y w : Dyadic) → x ≤ᴰ y → y <ᴰ w → x <ᴰ w
 ≤ᴰ_<ᴰ_trans x y w h g =
@@ -97,9 +94,6 @@ lies_same true v w x y e (l, g) = (<ᴰ_≤ᴰ_trans (dyadic v w) y x l (≤ᴰ_
 module _ (p n w v : ℤ) (low : v ≤ℤ w) where
   at_both : at v (plus (dyadic p w) (dyadic n v)) ≡ scale p (gap w v) +ℤ n
   at_both = at_plus v (dyadic p w) (dyadic n v) low (omega (arith, ints)) ∙ ap (λ (z : ℤ). scale p (gap w v) +ℤ z) (let z : gap v v ≡ 0 = omega (arith, ints) in ap (scale n) z ∙ scale_none n)
-
-  weight_both : (plus (dyadic p w) (dyadic n v)).weight ≡ v
-  weight_both = omega (arith, ints)
 
   -- where the weights are the same
   pub sum_same : w ≡ v → plus (dyadic p w) (dyadic n v) ≈ᴰ dyadic (p +ℤ n) w

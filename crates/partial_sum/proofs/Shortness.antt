@@ -1,5 +1,6 @@
 -- A window that holds the whole sum, where the grid is no coarser than its unit: the sum is a number of the grid.
-use Rattle.std.proofs.Common.{◌≡◌, ℕ, zero, suc, ◌+◌, ◌-◌, ◌*◌, ◌^◌, ◌≤◌, true, false, drop, ℤ, pos, ◌+ℤ◌, nat_abs, ◌≤ℤ◌, is_some, Some, None, Option, sym, ap, ◌∙◌, subst, inr, arith, pow-add}
+use Rattle.std.proofs.Common.{◌≡◌, ℕ, zero, suc, ◌+◌, ◌-◌, ◌*◌, ◌^◌, ◌≤◌, true, drop, ℤ, pos, ◌+ℤ◌, nat_abs, ◌≤ℤ◌, is_some, Some, None, Option, sym, ap, ◌∙◌, subst, inr, arith, pow-add}
+use Rattle.std.proofs.lemmas.Bool.{false≢true}
 use lib.Ieee.{size}
 use lib.Ieee.Digits.{size-le}
 use borrow.Author.Differences.{ints}
@@ -14,8 +15,7 @@ use Rattle.grid.specs.Rounding.{Mode, OnGrid}
 use Rattle.grid.proofs.Everywhere.{LawsEverywhere, laws_everywhere}
 use Rattle.grid.proofs.Apart.{apart}
 use Rattle.totals.specs.Totals.{totals_value}
-use Rattle.partial_sum.specs.Limits.{Sound}
-use Rattle.partial_sum.specs.Holding.{fields, slot, head, window}
+use Rattle.partial_sum.specs.Holding.{slot, head, window}
 use Rattle.partial_sum.specs.Ends.{number_held, lower_number, upper_number, Reached}
 use Rattle.partial_sum.specs.Rounded.{Undecided}
 use Rattle.partial_sum.specs.declared.sum.PartialSum.{PartialSum}
@@ -25,27 +25,27 @@ use Rattle.partial_sum.proofs.Deciding.{rises_far, lower_less, upper_more, whole
 
 -- ---- how long a window can be
 -- the head and j totals below it are less than 2 ^ 53 units of the head
-within : (p : PartialSum) → Sound (fields p) → (j i : ℕ) → i + j ≡ 129 → nat_abs (totals_value (drop i p.totals)) + 2 ^ 12 ≤ 2 ^ 53 * 2 ^ (32 * j)
-within p s zero i e =
+within : (p : PartialSum) → (j i : ℕ) → i + j ≡ 129 → nat_abs (totals_value (drop i p.totals)) + 2 ^ 12 ≤ 2 ^ 53 * 2 ^ (32 * j)
+within p zero i e =
     let at : totals_value (drop i p.totals) ≡ head p = ap (λ (k : ℕ). totals_value (drop k p.totals)) (let f : i ≡ 129 = omega arith in f) ∙ head_alone p.totals p.whole in
-    let small = s.shaped.head_small in
+    let small = p.sound.shaped.head_small in
     omega (arith, ints)
-within p s (suc j) i e =
-    let above = within p s j (i + 1) (omega arith) in
+within p (suc j) i e =
+    let above = within p j (i + 1) (omega arith) in
     let value : totals_value (drop i p.totals) ≡ slot p i +ℤ scale (totals_value (drop (i + 1) p.totals)) 32 = ap totals_value (drop_more p.totals i (pos 0) (omega (arith, p.whole))) ∙ value_below (slot p i) (drop (i + 1) p.totals) in
-    let here = s.all_totals i (omega arith) in
+    let here = p.sound.all_totals i (omega arith) in
     let next : 2 ^ (32 * suc j) ≡ 4294967296 * 2 ^ (32 * j) = pow_next_limb j in
     omega (arith, ints)
 
-window_length : (p : PartialSum) → Sound (fields p) → size (nat_abs (window p)) ≤ 53 + 32 * (129 - p.from)
-window_length p s =
+window_length : (p : PartialSum) → size (nat_abs (window p)) ≤ 53 + 32 * (129 - p.from)
+window_length p =
     let j = 129 - p.from in
-    let bound = within p s j p.from (omega (arith, p.used)) in
+    let bound = within p j p.from (omega (arith, p.used)) in
     let power : 2 ^ (53 + 32 * j) ≡ 2 ^ 53 * 2 ^ (32 * j) = pow-add 2 53 (32 * j) in
     size-le (nat_abs (window p)) (53 + 32 * j) (omega arith)
 
-pub window_exponent : (p : PartialSum) → Sound (fields p) → exponent (dyadic (window p) (column_weight p.lowest)) ≤ℤ (column_weight p.lowest +ℤ pos (53 + 32 * (129 - p.from)))
-window_exponent p s = let long = window_length p s in omega (arith, ints)
+pub window_exponent : (p : PartialSum) → exponent (dyadic (window p) (column_weight p.lowest)) ≤ℤ (column_weight p.lowest +ℤ pos (53 + 32 * (129 - p.from)))
+window_exponent p = let long = window_length p in omega (arith, ints)
 
 -- ---- a grid no coarser than the unit
 rises_to : (u : ℤ → ℤ) → LawsEverywhere u → (e f : ℤ) → e ≤ℤ f → u e ≤ℤ u f
@@ -57,18 +57,15 @@ units_on_grid u v w fine =
     let q = scale v (gap w z) in
     inr (q, sym (scale_none q) ∙ ap (scale q) (sym (gap_none z w fine)))
 
-pub sum_on_grid : (u : ℤ → ℤ) (W : ℕ) → Lawful u W → (p : PartialSum) → Sound (fields p) → p.column ≡ p.lowest → (top : ℤ) → exponent (dyadic (window p) (column_weight p.lowest)) ≤ℤ top → u top ≤ℤ column_weight p.lowest → OnGrid u (number_held p)
-sum_on_grid u W L p s here top upto fine =
+pub sum_on_grid : (u : ℤ → ℤ) (W : ℕ) → Lawful u W → (p : PartialSum) → p.column ≡ p.lowest → (top : ℤ) → exponent (dyadic (window p) (column_weight p.lowest)) ≤ℤ top → u top ≤ℤ column_weight p.lowest → OnGrid u (number_held p)
+sum_on_grid u W L p here top upto fine =
     let w = column_weight p.lowest in
     let up = rises_to u (laws_everywhere u W L) (exponent (dyadic (window p) w)) top upto in
-    subst (OnGrid u) (sym (whole_units p s here)) (units_on_grid u (window p) w (omega (arith, ints)))
+    subst (OnGrid u) (sym (whole_units p here)) (units_on_grid u (window p) w (omega (arith, ints)))
 
 -- ---- with more to come its ends do not round alike
 pub undecided_yet : (u : ℤ → ℤ) (W : ℕ) → Lawful u W → (m : Mode) (p : PartialSum) (n : ℕ) (below : Option ℤ) → Reached p n below → is_some below ≡ true → p.rest ≡ pos 0 → OnGrid u (number_held p) → Undecided u m p n below
-undecided_yet u W L m p n None reached some none on = absurd (not_both some)
-  where
-    not_both : false ≡ true → ⊥
-    not_both e = grind arith
+undecided_yet u W L m p n None reached some none on = absurd (false≢true some)
 undecided_yet u W L m p n (Some d) reached some none on = record {
   apart = apart u (laws_everywhere u W L) m (lower_number p n (Some d)) (number_held p) (upper_number p n (Some d)) on (lower_less p n d reached) (upper_more p n d reached);
   rest_few = omega (arith, ints);

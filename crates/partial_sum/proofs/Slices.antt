@@ -6,8 +6,7 @@ use Rattle.std.proofs.lemmas.Bool.{cases_lt, cases_eq}
 use Rattle.exact.specs.Limbs.{limbs_value}
 use Rattle.exact.proofs.LimbSteps.{value_push}
 use Rattle.totals.specs.Totals.{totals_value, SmallTotals}
-use Rattle.partial_sum.specs.Limits.{Sound}
-use Rattle.partial_sum.specs.Holding.{fields, slot, window}
+use Rattle.partial_sum.specs.Holding.{slot, window}
 use Rattle.partial_sum.specs.declared.sum.PartialSum.{PartialSum}
 use Rattle.partial_sum.proofs.Windows.{value_changed}
 
@@ -23,11 +22,11 @@ slice_length p v = ap length (from_slot p v) ∙ length-drop p.from (set p.total
 pub slice_value : (p : PartialSum) (a v : ℤ) → v ≡ slot p p.from +ℤ a → totals_value (take (130 - p.from) (drop p.from (set p.totals p.from v))) ≡ window p +ℤ a
 slice_value p a v e = ap totals_value (from_slot p v) ∙ value_changed p.totals p.from a v (omega (arith, p.whole, p.used)) e
 
-pub slot_small : (p : PartialSum) → Sound (fields p) → (k : ℕ) → k < 130 → nat_abs (slot p k) ≤ 2 ^ 52 + 2 ^ 42
-slot_small p s k l = ⊎_elim (λ (i : k < 129). (let h = s.all_totals k i in omega arith)) (λ (i : 129 ≤ k). subst (λ (j : ℕ). nat_abs (slot p j) ≤ 2 ^ 52 + 2 ^ 42) (let e : 129 ≡ k = omega arith in e) s.shaped.head_small) (cases_lt k 129)
+pub slot_small : (p : PartialSum) → (k : ℕ) → k < 130 → nat_abs (slot p k) ≤ 2 ^ 52 + 2 ^ 42
+slot_small p k l = ⊎_elim (λ (i : k < 129). (let h = p.sound.all_totals k i in omega arith)) (λ (i : 129 ≤ k). subst (λ (j : ℕ). nat_abs (slot p j) ≤ 2 ^ 52 + 2 ^ 42) (let e : 129 ≡ k = omega arith in e) p.sound.shaped.head_small) (cases_lt k 129)
 
-pub slice_small : (p : PartialSum) (a v : ℤ) → Sound (fields p) → nat_abs a ≤ 2 ^ 45 → v ≡ slot p p.from +ℤ a → SmallTotals (take (130 - p.from) (drop p.from (set p.totals p.from v)))
-slice_small p a v s few e k l =
+pub slice_small : (p : PartialSum) (a v : ℤ) → nat_abs a ≤ 2 ^ 45 → v ≡ slot p p.from +ℤ a → SmallTotals (take (130 - p.from) (drop p.from (set p.totals p.from v)))
+slice_small p a v few e k l =
     let long = slice_length p v in
     let inside : p.from + k < 130 = omega (arith, p.used) in
     let at : get_or (take (130 - p.from) (drop p.from (set p.totals p.from v))) k (pos 0) ≡ get_or (set p.totals p.from v) (p.from + k) (pos 0) =
@@ -35,10 +34,10 @@ slice_small p a v s few e k l =
     subst (λ (z : ℤ). nat_abs z < 2 ^ 53) (sym at) (⊎_elim
     (λ (same : p.from + k ≡ p.from).
     (let w : get_or (set p.totals p.from v) (p.from + k) (pos 0) ≡ v = ap (λ (j : ℕ). get_or (set p.totals p.from v) j (pos 0)) same ∙ get_or-set_same p.totals p.from v (pos 0) (omega (arith, p.whole, p.used)) in
-    let h = slot_small p s p.from p.used in omega (arith, ints)))
+    let h = slot_small p p.from p.used in omega (arith, ints)))
     (λ (ne : p.from + k ≢ p.from).
     (let w : get_or (set p.totals p.from v) (p.from + k) (pos 0) ≡ slot p (p.from + k) = get_or-set_other p.totals p.from (p.from + k) v (pos 0) ne in
-    let h = slot_small p s (p.from + k) inside in omega (arith, ints)))
+    let h = slot_small p (p.from + k) inside in omega (arith, ints)))
     (cases_eq (p.from + k) p.from))
 
 -- ---- the limb above

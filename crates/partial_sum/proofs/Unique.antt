@@ -1,10 +1,10 @@
 -- An answer's limbs, exponent and precision are determined by what number it is.
-use Rattle.std.proofs.Common.{◌≡◌, ℕ, zero, suc, ◌+◌, ◌-◌, ◌*◌, ◌^◌, ◌<◌, ◌≤◌, Bool, true, false, ℤ, pos, ◌+ℤ◌, ◌-ℤ◌, nat_abs, Some, None, Option, sym, refl, ap, ◌∙◌, subst, mul-pos, pow-suc, arith, pow_pos}
+use Rattle.std.proofs.Common.{◌≡◌, ℕ, zero, suc, ◌+◌, ◌-◌, ◌*◌, ◌^◌, ◌<◌, ◌≤◌, Bool, ℤ, pos, ◌+ℤ◌, ◌-ℤ◌, nat_abs, Some, None, Option, sym, refl, ap, ◌∙◌, subst, mul-pos, pow-suc, arith, pow_pos}
 use lib.Ieee.{size}
 use borrow.Author.Differences.{ints}
 use Rattle.exact.specs.Integers.{gap, scale, signed}
 use Rattle.exact.specs.Dyadic.{Dyadic, dyadic, ◌≈ᴰ◌, Nonzero, exponent}
-use Rattle.exact.proofs.Integers.{abs_neg}
+use Rattle.exact.proofs.Signed.{abs_signed}
 use Rattle.exact.proofs.Scaling.{scale_none}
 use Rattle.exact.proofs.BitLength.{size_is, size_scale}
 use Rattle.exact.proofs.Order.{≈ᴰ_sym, ≈ᴰ_trans}
@@ -19,10 +19,6 @@ use Rattle.ends.specs.declared.rounded_end.Extent.{Extent}
 use Rattle.ends.specs.declared.rounded_end.RoundedEnd.{RoundedEnd}
 use Rattle.partial_sum.specs.Lying.{Lies}
 use Rattle.partial_sum.specs.Rounded.{Certain}
-
-abs_signed : (s : Bool) (n : ℕ) → nat_abs (signed s n) ≡ n
-abs_signed false n = refl
-abs_signed true n = abs_neg n
 
 -- the weight of the last bit of limbs that hold p bits below the exponent e
 abbrev last_weight : ℤ → ℕ → ℤ
@@ -86,8 +82,6 @@ signs_apart Above Exact h = absurd (omega (arith, ints))
 signs_apart Above Above h = refl
 
 -- ---- two answers
-pub not_both : false ≡ true → ⊥
-not_both e = grind arith
 
 same_extent : (x y : Extent) → x.exponent ≡ y.exponent → x.precision ≡ y.precision → x ≡ y
 same_extent x y e p =

@@ -3,7 +3,7 @@ ghost use Rattle.std.specs.Prelude.{◌≡◌, ℕ, ◌^◌, ◌≤◌, ℤ, uns
 ghost use Rattle.partial_sum.specs.Lying.{Placed};
 
 // A unit of a column in units of the next.
-pub const UNIT: i64 = 0x1_0000_0000;
+pub(crate) const UNIT: i64 = 0x1_0000_0000;
 
 // An end lies `offset` units of the window's lowest column above the window's number, or, where it is partial, strictly between that and the next unit.
 #[derive(Clone, Copy, PartialEq, Eq, Debug)]

@@ -5,6 +5,7 @@ ghost use Rattle.exact.specs.Limbs.{limbs_value};
 ghost use Rattle.totals.specs.Totals.{totals_value, SmallTotals};
 ghost use Rattle.batch.specs.Term.{column_weight};
 ghost use Rattle.grid.specs.Modes.{mode_of};
+ghost use Rattle.limbs.specs.Bits.{most_limbs};
 ghost use Rattle.partial_sum.specs.Ends.{Meant};
 ghost use Rattle.partial_sum.specs.Limits.{InReach};
 ghost use Rattle.partial_sum.specs.Rounded.{RoundedAt};
@@ -40,9 +41,9 @@ pub fn round_settled<G: Grid>(
     rounding: Rounding<G>,
     answer: &mut [u32],
 ) -> Option<RoundedEnd>
-    requires magnitude { length end.whole.now ≤ 1048576 }
+    requires magnitude { length end.whole.now ≤ most_limbs }
     requires reach { InReach end.column }
-    requires few { length answer.old ≤ 1048576 }
+    requires few { length answer.old ≤ most_limbs }
     requires room { G.Grid.widest rounding.grid.now ≤ 32 * length answer.old }
     ensures { (v : ℤ) → Meant end.entry.negative end.entry.partial (limbs_value end.entry.whole.now) v → RoundedAt (G.Grid.spacing rounding.entry.grid.now) (mode_of rounding.entry.mode) end.entry.partial v (column_weight end.entry.column) result (limbs_value answer.new) }
 {

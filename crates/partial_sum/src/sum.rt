@@ -8,7 +8,7 @@ pub mod rounding;
 
 // The window is `totals` from the slot `from` on, the least significant total first, the lowest of them at the column `lowest`. Below the
 // window there is one more total, `rest`, at the column `column`. As long as the window has room it reaches down to that column.
-// The window grows downward, and the slots below it hold zeros, so that a gap takes no work.
+// The window grows downward in an array, since memory is fixed; the slots below it hold zeros, so that a gap takes no work.
 #[derive(Drop)]
 pub struct PartialSum {
     totals: [i64; 130],

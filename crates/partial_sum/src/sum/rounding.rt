@@ -7,6 +7,7 @@ ghost use Rattle.partial_sum.specs.Limits.{InReach};
 ghost use Rattle.partial_sum.specs.Holding.{window};
 ghost use Rattle.batch.specs.Term.{column_weight};
 ghost use Rattle.grid.specs.Modes.{mode_of};
+ghost use Rattle.limbs.specs.Bits.{most_limbs};
 ghost use Rattle.grid.specs.Rounding.{OnGrid};
 ghost use Rattle.partial_sum.specs.Ends.{Meant, Reached, number_held};
 ghost use Rattle.partial_sum.specs.Rounded.{RoundedAt, BothRounded};
@@ -54,11 +55,12 @@ impl PartialSum {
     ) -> Option<RoundedEnd>
         requires offset { unsigned_abs end.offset ≤ 2 ^ 44 }
         requires reach { InReach self.now.lowest }
-        requires few { length answer.old ≤ 1048576 }
+        requires few { length answer.old ≤ most_limbs }
         requires room { G.Grid.widest rounding.grid.now ≤ 32 * length answer.old }
         ensures rounded { RoundedAt (G.Grid.spacing rounding.entry.grid.now) (mode_of rounding.entry.mode) end.partial (window self.now +ℤ end.offset) (column_weight self.now.lowest) result (limbs_value answer.new) }
         ensures limbs { (k : ℕ) → slice_index answer.new k < 2 ^ 32 }
     {
+        // In fixed memory, with room for the longest window; a shorter one takes the last of them.
         let mut limbs = [0u32; 131];
         let magnitude = &mut limbs[self.from..];
         let negative = self.settle_end(end, magnitude);
@@ -113,6 +115,7 @@ impl PartialSum {
         if lower == upper {
             return Some(first);
         }
+        // The upper end's answer stands in fixed memory of its own, as long as the lower end's.
         let mut other = [0u32; 128];
         let second = self.round_at(upper, rounding, &mut other)?;
         if first == second && answer[..] == other[..] {

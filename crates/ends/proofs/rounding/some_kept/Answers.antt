@@ -1,25 +1,9 @@
 -- The bits that are written, carried or kept.
-use Rattle.std.proofs.Common.{◌≡◌, ℕ, ◌+◌, ◌-◌, ◌*◌, ◌/◌, ◌^◌, ◌<◌, pos, ◌+ℤ◌, ap, ◌∙◌, subst, inl, inr, arith, w32, SFits, to_z, of_z, rules}
-use Rattle.std.proofs.lemmas.Int.{ints, to_z-of_z}
+use Rattle.std.proofs.Common.{◌≡◌, ℕ, ◌+◌, ◌*◌, ◌/◌, ◌^◌, pos, ◌+ℤ◌, ap, ◌∙◌, subst, inr, arith, w32, SFits, to_z, of_z, rules}
+use Rattle.std.proofs.lemmas.Int.{ints}
 use Rattle.exact.specs.Limbs.{limbs_value}
 use Rattle.limbs.specs.Bits.{bit, limbs_for}
 use Rattle.ends.proofs.rounding.some_kept.Goals as goal
-
-pub returns-then-not-write_rounded : goal.returns-then-not-write_rounded
-returns-then-not-write_rounded c = λ p q pp qq.
-    let place = c.args.place in
-    let n = limbs_value c.args.number.limbs.now in
-    let a = limbs_value c.write_rounded.new.answer in
-    let unit : SFits w32 place.unit = search rules in
-    let here : SFits w32 place.exponent = search rules in
-    let kept : c.distance-precision.result ≡ p = omega (arith, ints, c.distance-precision.ensures.is) in
-    let w = c.if-not-write_rounded.ensures in
-    inl (
-      to_z-of_z w32 place.exponent here,
-      kept,
-      subst (λ (y : ℕ). a ≡ (n * 2 ^ y / 2 ^ c.args.number.bits + bit c.args.raise) * 2 ^ (32 * limbs_for y - y)) kept w.0,
-      subst (λ (y : ℕ). n * 2 ^ y / 2 ^ c.args.number.bits + bit c.args.raise < 2 ^ y) kept w.1,
-    )
 
 pub returns : goal.returns
 returns c = λ p q pp qq.

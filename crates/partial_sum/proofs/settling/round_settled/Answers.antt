@@ -1,9 +1,9 @@
 use Rattle.std.proofs.Common.{sym, ◌∙◌}
+use Rattle.std.proofs.lemmas.Bool.{false≢true}
 use Rattle.exact.specs.Limbs.{limbs_value}
 use Rattle.grid.specs.Modes.{mode_of}
 use Rattle.batch.specs.Term.{column_weight}
 use Rattle.partial_sum.proofs.Determined.{as_rounded, nothing_rounds}
-use Rattle.partial_sum.proofs.Heads.{not_both}
 use Rattle.partial_sum.proofs.Meaning.{no_bits, some_bits}
 use Rattle.partial_sum.proofs.settling.round_settled.Goals as goal
 use Rattle.partial_sum.proofs.settling.round_settled.Goals.{else-not-end-via-then-not-end+else-bits-eq0, else-not-end-via-else-not-end}
@@ -21,7 +21,7 @@ round_end-requires g c = record {
   nonzero = λ whole.
       elim c.else-not-end.branch [
         | else-not-end-via-then-not-end+else-bits-eq0 w ↦ some_bits (limbs_value c.args.end.whole.now) (λ none. w.if-bits-eq0.false (c.bit_length-bits.ensures.is ∙ none))
-        | else-not-end-via-else-not-end w ↦ absurd (not_both (sym whole ∙ w.if-not-end.false))
+        | else-not-end-via-else-not-end w ↦ absurd (false≢true (sym whole ∙ w.if-not-end.false))
       ];
 }
 

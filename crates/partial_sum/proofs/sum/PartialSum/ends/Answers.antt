@@ -11,7 +11,7 @@ returns-in-None-clause-lower c =
     let n = c.args.below.reaching in
     let rest : SFits w64 p.rest = search rules in
     subst (λ (o : Option ℤ). LiesAt p r (lower_number p n o)) (sym c.in-None.is)
-    (last_lower p r n (to_z w64 (of_z w64 p.rest)) p.sound c.from_window-end.ensures.placed (to_z-of_z w64 p.rest rest))
+    (last_lower p r n (to_z w64 (of_z w64 p.rest)) c.from_window-end.ensures.placed (to_z-of_z w64 p.rest rest))
 
 pub returns-in-None-clause-upper : goal.returns-in-None-clause-upper
 returns-in-None-clause-upper c =
@@ -20,7 +20,7 @@ returns-in-None-clause-upper c =
     let n = c.args.below.reaching in
     let rest : SFits w64 p.rest = search rules in
     subst (λ (o : Option ℤ). LiesAt p r (upper_number p n o)) (sym c.in-None.is)
-    (last_upper p r n (to_z w64 (of_z w64 p.rest)) p.sound c.from_window-end.ensures.placed (to_z-of_z w64 p.rest rest))
+    (last_upper p r n (to_z w64 (of_z w64 p.rest)) c.from_window-end.ensures.placed (to_z-of_z w64 p.rest rest))
 
 pub returns-in-Some-clause-lower : goal.returns-in-Some-clause-lower
 returns-in-Some-clause-lower c =
@@ -35,7 +35,7 @@ returns-in-Some-clause-lower c =
     let reached : Reached p n (Some d) = subst (Reached p n) c.in-Some.is c.requires in
     let adjacent : d +ℤ pos 1 ≡ p.column = omega (arith, ints, c.if-next-self.true) in
     subst (λ (o : Option ℤ). LiesAt p r (lower_number p n o)) (sym c.in-Some.is)
-    (next_lower p r n d _ p.sound adjacent c.from_window-lower.ensures.placed (omega (arith, ints, c.from-reaching.ensures)))
+    (next_lower p r n d _ adjacent c.from_window-lower.ensures.placed (omega (arith, ints, c.from-reaching.ensures)))
 
 pub returns-in-Some-clause-upper : goal.returns-in-Some-clause-upper
 returns-in-Some-clause-upper c =
@@ -50,7 +50,7 @@ returns-in-Some-clause-upper c =
     let reached : Reached p n (Some d) = subst (Reached p n) c.in-Some.is c.requires in
     let adjacent : d +ℤ pos 1 ≡ p.column = omega (arith, ints, c.if-next-self.true) in
     subst (λ (o : Option ℤ). LiesAt p r (upper_number p n o)) (sym c.in-Some.is)
-    (next_upper p r n d _ p.sound adjacent c.from_window-upper.ensures.placed (omega (arith, ints, c.from-reaching.ensures)))
+    (next_upper p r n d _ adjacent c.from_window-upper.ensures.placed (omega (arith, ints, c.from-reaching.ensures)))
 
 pub returns-in-Some-2-clause-lower : goal.returns-in-Some-2-clause-lower
 returns-in-Some-2-clause-lower c =
@@ -66,7 +66,7 @@ returns-in-Some-2-clause-lower c =
     let apart : ¬ (d +ℤ pos 1 ≡ p.column) = λ same. c.if-next-self.false (ap (of_z w32) (ap (λ (z : ℤ). z +ℤ pos 1) (to_z-of_z w32 d next) ∙ same)) in
     let below = reached.0 in
     subst (λ (o : Option ℤ). LiesAt p r (lower_number p n o)) (sym c.in-Some.is)
-    (gap_lower p n d p.sound (omega (arith, ints)) reached.1 reached.2 r (to_z w64 (of_z w64 (to_z w64 (of_z w64 p.rest) -ℤ pos 1))) c.between_units-lower.ensures.partial c.between_units-lower.ensures.placed (omega (arith, ints)))
+    (gap_lower p n d (omega (arith, ints)) reached.1 reached.2 r (to_z w64 (of_z w64 (to_z w64 (of_z w64 p.rest) -ℤ pos 1))) c.between_units-lower.ensures.partial c.between_units-lower.ensures.placed (omega (arith, ints)))
 
 pub returns-in-Some-2-clause-upper : goal.returns-in-Some-2-clause-upper
 returns-in-Some-2-clause-upper c =
@@ -81,4 +81,4 @@ returns-in-Some-2-clause-upper c =
     let apart : ¬ (d +ℤ pos 1 ≡ p.column) = λ same. c.if-next-self.false (ap (of_z w32) (ap (λ (z : ℤ). z +ℤ pos 1) (to_z-of_z w32 d next) ∙ same)) in
     let below = reached.0 in
     subst (λ (o : Option ℤ). LiesAt p r (upper_number p n o)) (sym c.in-Some.is)
-    (gap_upper p n d p.sound (omega (arith, ints)) reached.1 reached.2 r (to_z w64 (of_z w64 p.rest)) c.between_units-upper.ensures.partial c.between_units-upper.ensures.placed (omega (arith, ints)))
+    (gap_upper p n d (omega (arith, ints)) reached.1 reached.2 r (to_z w64 (of_z w64 p.rest)) c.between_units-upper.ensures.partial c.between_units-upper.ensures.placed (omega (arith, ints)))

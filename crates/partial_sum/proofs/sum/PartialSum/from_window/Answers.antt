@@ -4,22 +4,19 @@ use Rattle.partial_sum.specs.Lying.{Placed}
 use Rattle.partial_sum.specs.Limits.{drop_between}
 use Rattle.partial_sum.proofs.sum.PartialSum.from_window.Goals as goal
 
-pub returns-then-self-2 : goal.returns-then-self-2
-returns-then-self-2 c =
+pub returns-then-self-2-clause-placed : goal.returns-then-self-2-clause-placed
+returns-then-self-2-clause-placed c =
     let p = c.args.self.now in
     let r = c.one_column_up.result in
     let column : SFits w32 p.column = search rules in
     let lowest : SFits w32 p.lowest = search rules in
     let order = c.args.self.now.sound.shaped.order in
     let k : 32 ≡ drop_between p.lowest p.column = omega (arith, ints, c.if-self-2.true) in
-    record {
-      small = c.one_column_up.ensures.small;
-      placed = subst (λ (i : ℕ). Placed r.partial i c.args.units r.offset) k
-          (subst (λ (z : ℤ). Placed r.partial 32 z r.offset) (to_z-of_z w64 c.args.units c.ranges.units) c.one_column_up.ensures.placed);
-    }
+    subst (λ (i : ℕ). Placed r.partial i c.args.units r.offset) k
+    (subst (λ (z : ℤ). Placed r.partial 32 z r.offset) (to_z-of_z w64 c.args.units c.ranges.units) c.one_column_up.ensures.placed)
 
-pub returns-else-self-2 : goal.returns-else-self-2
-returns-else-self-2 c =
+pub returns-else-self-2-clause-placed : goal.returns-else-self-2-clause-placed
+returns-else-self-2-clause-placed c =
     let p = c.args.self.now in
     let r = c.far_up.result in
     let column : SFits w32 p.column = search rules in
@@ -28,4 +25,4 @@ returns-else-self-2 c =
     let here : ¬ (p.lowest ≡ p.column) = λ same. c.if-self.false (ap (of_z w32) same) in
     let next : ¬ (p.lowest -ℤ pos 1 ≡ p.column) = λ same. c.if-self-2.false (ap (of_z w32) (ap (λ (z : ℤ). z -ℤ pos 1) (to_z-of_z w32 p.lowest lowest) ∙ same)) in
     let k : 64 ≤ drop_between p.lowest p.column = omega (arith, ints) in
-    record { small = c.far_up.ensures.small; placed = subst (λ (z : ℤ). Placed r.partial (drop_between p.lowest p.column) z r.offset) (to_z-of_z w64 c.args.units c.ranges.units) (c.far_up.ensures.placed (drop_between p.lowest p.column) k) }
+    subst (λ (z : ℤ). Placed r.partial (drop_between p.lowest p.column) z r.offset) (to_z-of_z w64 c.args.units c.ranges.units) (c.far_up.ensures.placed (drop_between p.lowest p.column) k)

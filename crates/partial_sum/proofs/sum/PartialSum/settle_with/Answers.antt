@@ -1,27 +1,32 @@
-use Rattle.std.proofs.Common.{◌≡◌, ◌+ℤ◌, nat_abs, ap, ◌∙◌, arith, w64, SFits, to_z, of_z, rules}
+use Rattle.std.proofs.Common.{◌≡◌, ℤ, ◌≤◌, ◌^◌, ◌+ℤ◌, nat_abs, ap, ◌∙◌, arith, w64, SFits, to_z, of_z, rules}
 use Rattle.std.proofs.lemmas.Int.{ints}
 use Rattle.exact.specs.Integers.{is_negative}
 use Rattle.partial_sum.specs.Holding.{slot}
-use Rattle.partial_sum.proofs.Slices.{slice_length, slice_value, slice_small, slot_small}
+use Rattle.partial_sum.specs.declared.sum.PartialSum.{PartialSum}
+use Rattle.partial_sum.proofs.Slices.{slice_value, slice_small, slot_small}
 use Rattle.partial_sum.proofs.sum.PartialSum.settle_with.Goals as goal
 
-pub settle_whole-requires : goal.settle_whole-requires
-settle_whole-requires c =
-    let p = c.args.self.now in
-    let fits : SFits w64 (slot p p.from) = search rules in
-    let few = c.requires.few in
-    let small = slot_small p c.args.self.now.sound p.from p.used in
-    let v = to_z w64 (of_z w64 (to_z w64 (of_z w64 (slot p p.from)) +ℤ to_z w64 (of_z w64 c.args.offset))) in
-    let is : v ≡ slot p p.from +ℤ c.args.offset = omega (arith, ints) in
-    record { room = omega (arith, slice_length p v, c.requires.room, p.used); small = slice_small p c.args.offset v c.args.self.now.sound few is }
+-- the window's lowest total with the offset, as it is worked out
+abbrev lowest_with : PartialSum → ℤ → ℤ
+lowest_with p a = to_z w64 (of_z w64 (to_z w64 (of_z w64 (slot p p.from)) +ℤ to_z w64 (of_z w64 a)))
 
-pub returns : goal.returns
-returns c =
+lowest_is : (p : PartialSum) (a : ℤ) → SFits w64 (slot p p.from) → SFits w64 a → nat_abs a ≤ 2 ^ 45 → lowest_with p a ≡ slot p p.from +ℤ a
+lowest_is p a fits also few = let small = slot_small p p.from p.used in omega (arith, ints)
+
+pub settle_whole-requires-clause-small : goal.settle_whole-requires-clause-small
+settle_whole-requires-clause-small c =
     let p = c.args.self.now in
     let fits : SFits w64 (slot p p.from) = search rules in
-    let few = c.requires.few in
-    let small = slot_small p c.args.self.now.sound p.from p.used in
-    let v = to_z w64 (of_z w64 (to_z w64 (of_z w64 (slot p p.from)) +ℤ to_z w64 (of_z w64 c.args.offset))) in
-    let is : v ≡ slot p p.from +ℤ c.args.offset = omega (arith, ints) in
-    let value = slice_value p c.args.offset v is in
-    record { negative = c.settle_whole.ensures.negative ∙ ap is_negative value; magnitude = c.settle_whole.ensures.magnitude ∙ ap nat_abs value }
+    slice_small p c.args.offset (lowest_with p c.args.offset) c.requires.few (lowest_is p c.args.offset fits c.ranges.offset c.requires.few)
+
+pub returns-clause-negative : goal.returns-clause-negative
+returns-clause-negative c =
+    let p = c.args.self.now in
+    let fits : SFits w64 (slot p p.from) = search rules in
+    c.settle_whole.ensures.negative ∙ ap is_negative (slice_value p c.args.offset (lowest_with p c.args.offset) (lowest_is p c.args.offset fits c.ranges.offset c.requires.few))
+
+pub returns-clause-magnitude : goal.returns-clause-magnitude
+returns-clause-magnitude c =
+    let p = c.args.self.now in
+    let fits : SFits w64 (slot p p.from) = search rules in
+    c.settle_whole.ensures.magnitude ∙ ap nat_abs (slice_value p c.args.offset (lowest_with p c.args.offset) (lowest_is p c.args.offset fits c.ranges.offset c.requires.few))

@@ -6,8 +6,8 @@ use Rattle.partial_sum.specs.Holding.{window}
 use Rattle.partial_sum.proofs.Shortness.{sum_on_grid}
 use Rattle.partial_sum.proofs.sum.PartialSum.too_short_to_decide.Goals as goal
 
-pub returns-then-self : goal.returns-then-self
-returns-then-self g c =
+pub returns-then-self-clause-member : goal.returns-then-self-clause-member
+returns-then-self-clause-member g c =
     let p = c.args.self.now in
     let grid = c.args.grid.now in
     let u = g.G.Grid.spacing grid in
@@ -18,7 +18,4 @@ returns-then-self g c =
     let high : SFits w32 c.top_exponent.result = search rules in
     let spaced : SFits w32 c.spacing.result = search rules in
     let upto : exponent (dyadic (window p) (column_weight p.lowest)) ≤ℤ top = omega (arith, ints, c.top_exponent.ensures) in
-    record {
-      whole = λ _. c.args.self.now.sound.shaped.open_rest here;
-      member = λ test. (let fine : u top ≤ℤ column_weight p.lowest = omega (arith, ints, test, c.spacing.ensures, c.requires.from, c.requires.upto) in sum_on_grid u (g.G.Grid.widest grid) (g.G.Grid.lawful grid) p c.args.self.now.sound here top upto fine);
-    }
+    λ test. (let fine : u top ≤ℤ column_weight p.lowest = omega (arith, ints, test, c.spacing.ensures, c.requires.from, c.requires.upto) in sum_on_grid u (g.G.Grid.widest grid) (g.G.Grid.lawful grid) p here top upto fine)

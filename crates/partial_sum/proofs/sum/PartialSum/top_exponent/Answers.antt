@@ -7,5 +7,5 @@ pub returns : goal.returns
 returns c =
     let p = c.args.self.now in
     let fits : SFits w32 p.lowest = search rules in
-    let upto = window_exponent p c.args.self.now.sound in
+    let upto = window_exponent p in
     omega (arith, ints, c.requires.from, c.requires.upto, p.used)
