@@ -1,8 +1,8 @@
 -- The same ask gets the same again.
 use Rattle.std.proofs.Common.{length, refl, arith}
 use Rattle.sheet.specs.Shown.{shown}
-use Rattle.bench_entry.proofs.Repeated.{with_room, refused_again}
-use Rattle.bench_entry.proofs.repeat_ask.Goals as goal
+use Rattle.whole_ask.proofs.Repeated.{with_room, refused_again}
+use Rattle.whole_ask.proofs.asking.repeat_ask.Goals as goal
 
 pub loop-init : goal.loop-init
 loop-init g c =

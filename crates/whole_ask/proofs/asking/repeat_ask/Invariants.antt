@@ -3,7 +3,7 @@ use Rattle.std.proofs.Common.{◌≡◌, true, length, is_err}
 use Rattle.sheet.specs.Shown.{shown}
 use Rattle.answers.specs.Asked.{question, asked}
 use Rattle.ask.specs.Told.{told}
-use Rattle.bench_entry.proofs.repeat_ask.Given as goal
+use Rattle.whole_ask.proofs.asking.repeat_ask.Given as goal
 
 abbrev pub invariant-loop : goal.invariant-loop
 invariant-loop g l =

@@ -1,3 +1,3 @@
 pub mod Repeated
 pub mod Replies
-pub mod Returned
+pub mod Faults
