@@ -28,7 +28,8 @@ impl<'b, B: Batch> CountedTerms<'b, B> {
     {
         let mut total: i64 = 0;
         let mut below: usize = 0;
-        for &term in self.terms.iter() {
+        let listed = self.terms.as_slice();
+        for &term in listed {
             total += self.signed_digit(term, column);
             if self.reaches_below(term, column) {
                 below += 1;

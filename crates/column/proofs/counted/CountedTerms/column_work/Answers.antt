@@ -15,19 +15,19 @@ nothing = record { place = 0; negative = false }
 
 pub overflow_add-total : goal.overflow_add-total
 overflow_add-total g c =
-    sum_fits (g.B.Batch.terms c.args.self.now.batch.now) c.deref-term-items.result.now _ c.loop-term.term-index _ _ c.loop-term.invariant
-    c.deref-term-items.ensures.1 c.loop-term.auto.term-index-end (get_or c.deref-term-items.result.now c.loop-term.term-index nothing) c.signed_digit-total.result c.signed_digit-total.ensures
+    sum_fits (g.B.Batch.terms c.args.self.now.batch.now) c.as_slice-listed.result.now _ c.loop-term.term-index _ _ c.loop-term.invariant
+    c.as_slice-listed.ensures.fits c.loop-term.auto.term-index-end (get_or c.as_slice-listed.result.now c.loop-term.term-index nothing) c.signed_digit-total.result c.signed_digit-total.ensures
 
 pub overflow_add-below : goal.overflow_add-below
 overflow_add-below g c =
-    let s = gathered_small (g.B.Batch.terms c.args.self.now.batch.now) c.deref-term-items.result.now _ c.loop-term.term-index _ _ c.loop-term.invariant
-    c.deref-term-items.ensures.1 c.loop-term.auto.term-index-end in
+    let s = gathered_small (g.B.Batch.terms c.args.self.now.batch.now) c.as_slice-listed.result.now _ c.loop-term.term-index _ _ c.loop-term.invariant
+    c.as_slice-listed.ensures.fits c.loop-term.auto.term-index-end in
     omega (arith, s.1)
 
 pub loop-term-preserved : goal.loop-term-preserved
 loop-term-preserved g c =
-    let more = gathered_more (g.B.Batch.terms c.args.self.now.batch.now) c.deref-term-items.result.now _ c.loop-term.term-index _ _ c.loop-term.invariant
-    c.deref-term-items.ensures.1 c.loop-term.auto.term-index-end _ c.loop-term-test.true c.signed_digit-total.result c.reaches_below.result c.if-reaches_below.below
+    let more = gathered_more (g.B.Batch.terms c.args.self.now.batch.now) c.as_slice-listed.result.now _ c.loop-term.term-index _ _ c.loop-term.invariant
+    c.as_slice-listed.ensures.fits c.loop-term.auto.term-index-end _ c.loop-term-test.true c.signed_digit-total.result c.reaches_below.result c.if-reaches_below.below
     c.signed_digit-total.ensures c.reaches_below.ensures in
     elim c.if-reaches_below.branch [
       | then-reaches_below w ↦ more (w.below-is ∙ ap (λ (b : Bool). c.loop-term.below + cond b 1 0) (sym w.if-reaches_below.true))
@@ -39,13 +39,13 @@ loop-term-preserved g c =
 pub returns : goal.returns
 returns g c =
     let ts = g.B.Batch.terms c.args.self.now.batch.now in
-    let xs = c.deref-term-items.result.now in
+    let xs = c.as_slice-listed.result.now in
     let ps = listed_parts c.args.self.now in
     let k = c.args.column in
-    let few = c.deref-term-items.ensures.1 in
+    let few = c.as_slice-listed.ensures.fits in
     let within = c.loop-term.auto.term-index-end in
     let w = gathered_all ts xs (to_z w32 (of_z w32 k)) c.loop-term.term-index _ c.loop-term.below c.loop-term.invariant few within c.args.self.now.terms.items k
-    c.loop-term-test.false c.deref-term-items.ensures.0 (to_z-of_z w32 k c.ranges.column) in
+    c.loop-term-test.false c.as_slice-listed.ensures.value (to_z-of_z w32 k c.ranges.column) in
     record {
       total = w.total;
       below = w.below;
