@@ -77,7 +77,14 @@ fn on_both_grids<B: Batch, F: Grid, G: Grid>(
         binary64,
         Mode::Upward,
     )?;
-    one(rt, "nearest, binary64", sheet, batch, binary64, Mode::Nearest)?;
+    one(
+        rt,
+        "nearest, binary64",
+        sheet,
+        batch,
+        binary64,
+        Mode::Nearest,
+    )?;
     one(rt, "nearest, 24 bits", sheet, batch, single, Mode::Nearest)?;
     neighbours(rt, sheet, batch, single)
 }

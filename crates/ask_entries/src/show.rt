@@ -18,14 +18,19 @@ pub fn answer(
     limbs: &[u32],
 ) -> io::Result<()> {
     match returned {
-        Ok(Answer {
-            kind,
-            exponent,
-            precision,
-            direction,
-            depth,
-        }) => {
-            print!(rt; "kind {}, exponent {exponent}, precision {precision}, limbs", kind.number())?;
+        Ok(
+            Answer {
+                kind,
+                exponent,
+                precision,
+                direction,
+                depth,
+            },
+        ) => {
+            print!(rt;
+                "kind {}, exponent {exponent}, precision {precision}, limbs",
+                kind.number()
+            )?;
             answer_limbs(rt, precision, limbs)?;
             println!(rt; ", {direction}, depth {depth}")
         }
