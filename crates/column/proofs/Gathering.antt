@@ -45,29 +45,37 @@ module _ (ts : List Term) (xs : List CountedTerm) (k : ℤ) (i : ℕ) where
   first_few : length xs ≤ 1024 → i ≤ length xs → length (first_parts i) ≤ 1024
   first_few h l = omega (arith, length-map (take i xs) (listed_part ts), length-take-le i xs l)
 
-  module _ (t : ℤ) (n : ℕ) (w : Gathered (first_parts i) k t n) (few : length xs ≤ 1024) (within : i ≤ length xs) where
+  -- zs is how the code reads them
+  module _ (t : ℤ) (n : ℕ) (w : Gathered (first_parts i) k t n) (few : length xs ≤ 1024) (zs : List CountedTerm) (same : zs ≡ xs) (within : i ≤ length zs) where
+    few_first : length (first_parts i) ≤ 1024
+    few_first = let l = ap (length {A = CountedTerm}) same in first_few few (omega (arith, l, within))
+
     pub gathered_small : (nat_abs t < 2 ^ 42) × (n ≤ 1024)
-    gathered_small = (rw w.total (total_small (first_parts i) k (first_few few within)), omega (arith, w.below, tally_le (λ p. lt_z (low p) (column_weight k)) (first_parts i), first_few few within))
+    gathered_small = (rw w.total (total_small (first_parts i) k few_first), omega (arith, w.below, tally_le (λ p. lt_z (low p) (column_weight k)) (first_parts i), few_first))
 
     pub sum_fits : (c : CountedTerm) (d : ℤ) → d ≡ signed (listed_part ts c).negative (digit (listed_part ts c) k) → SFits w64 (summed t d)
     sum_fits c d e = let s = gathered_small.0 in let r : nat_abs d < 2 ^ 32 = rw e (digit_small (listed_part ts c) k) in omega (arith, ints)
 
     -- one term more
-    pub gathered_more : (c : CountedTerm) → i < length xs → (d : ℤ) (b : Bool) (o : ℕ) → d ≡ signed (listed_part ts (get_or xs i c)).negative (digit (listed_part ts (get_or xs i c)) k)
-        → b ≡ lt_z (low (listed_part ts (get_or xs i c))) (column_weight k) → o ≡ n + cond b 1 0 → Gathered (first_parts (i + 1)) k (to_z w64 (of_z w64 (summed t d))) o
+    pub gathered_more : (c : CountedTerm) → i < length zs → (d : ℤ) (b : Bool) (o : ℕ) → d ≡ signed (listed_part ts (get_or zs i c)).negative (digit (listed_part ts (get_or zs i c)) k)
+        → b ≡ lt_z (low (listed_part ts (get_or zs i c))) (column_weight k) → o ≡ n + cond b 1 0 → Gathered (first_parts (i + 1)) k (to_z w64 (of_z w64 (summed t d))) o
     gathered_more c l d b o e f q =
-        let p = listed_part ts (get_or xs i c) in
+        let p = listed_part ts (get_or zs i c) in
         let s = gathered_small.0 in
         let r : nat_abs d < 2 ^ 32 = rw e (digit_small p k) in
         let exact : to_z w64 (of_z w64 (summed t d)) ≡ t +ℤ d = omega (arith, ints) in
-        let more : first_parts (i + 1) ≡ first_parts i ++ p ∷ [] = ap (map (listed_part ts)) (take_more xs i c l) ∙ map-append (listed_part ts) (take i xs) (get_or xs i c ∷ []) in
+        let read : first_parts (i + 1) ≡ parts_listed ts (take (i + 1) zs) = ap (λ (ys : List CountedTerm). parts_listed ts (take (i + 1) ys)) (sym same) in
+        let before : parts_listed ts (take i zs) ≡ first_parts i = ap (λ (ys : List CountedTerm). parts_listed ts (take i ys)) same in
+        let more : first_parts (i + 1) ≡ first_parts i ++ p ∷ [] =
+        read ∙ ap (map (listed_part ts)) (take_more zs i c l) ∙ map-append (listed_part ts) (take i zs) (get_or zs i c ∷ []) ∙ ap (λ (ps : List Part). ps ++ p ∷ []) before in
         record {
           total = exact ∙ ap₂ ◌+ℤ◌ w.total e ∙ sym (sum_push (λ (x : Part). digit x k) (first_parts i) p) ∙ sym (ap (λ (qs : List Part). column_total qs k) more);
           below = q ∙ ap₂ (λ (m : ℕ) (x : Bool). m + cond x 1 0) w.below f ∙ sym (tally_push (λ x. lt_z (low x) (column_weight k)) (first_parts i) p) ∙ sym (ap (λ (qs : List Part). reaching_below qs (column_weight k)) more);
         }
 
-    -- all of them, in the numbers of the caller
-    pub gathered_all : (ys : List CountedTerm) (b : ℤ) → length xs ≤ i → xs ≡ ys → k ≡ b → Gathered (parts_listed ts ys) b t n
-    gathered_all ys b h e f =
-        let all : take i xs ≡ ys = take_all i xs h ∙ e in
-        subst (λ (x : ℤ). Gathered (parts_listed ts ys) x t n) f (subst (λ (zs : List CountedTerm). Gathered (parts_listed ts zs) k t n) all w)
+    -- all of them, at the caller's column
+    pub gathered_all : (b : ℤ) → length zs ≤ i → k ≡ b → Gathered (parts_listed ts xs) b t n
+    gathered_all b h f =
+        let l = ap (length {A = CountedTerm}) same in
+        let all : take i xs ≡ xs = take_all i xs (omega (arith, l, h)) in
+        subst (λ (x : ℤ). Gathered (parts_listed ts xs) x t n) f (subst (λ (ys : List CountedTerm). Gathered (parts_listed ts ys) k t n) all w)

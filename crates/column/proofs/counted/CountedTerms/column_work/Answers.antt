@@ -15,20 +15,24 @@ nothing = record { place = 0; negative = false }
 
 pub overflow_add-total : goal.overflow_add-total
 overflow_add-total g c =
-    sum_fits (g.B.Batch.terms c.args.self.now.batch.now) c.as_slice-listed.result.now _ c.loop-term.term-index _ _ c.loop-term.invariant
-    c.as_slice-listed.ensures.fits c.loop-term.auto.term-index-end (get_or c.as_slice-listed.result.now c.loop-term.term-index nothing) c.signed_digit-total.result c.signed_digit-total.ensures
+    let x = c.args.self.now in
+    sum_fits (g.B.Batch.terms x.batch.now) x.terms.items _ c.loop-term.term-index _ _ c.loop-term.invariant x.fits
+    c.as_slice-listed.result.now c.as_slice-listed.ensures.value c.loop-term.auto.term-index-end (get_or c.as_slice-listed.result.now c.loop-term.term-index nothing)
+    c.signed_digit-total.result c.signed_digit-total.ensures
 
 pub overflow_add-below : goal.overflow_add-below
 overflow_add-below g c =
-    let s = gathered_small (g.B.Batch.terms c.args.self.now.batch.now) c.as_slice-listed.result.now _ c.loop-term.term-index _ _ c.loop-term.invariant
-    c.as_slice-listed.ensures.fits c.loop-term.auto.term-index-end in
+    let x = c.args.self.now in
+    let s = gathered_small (g.B.Batch.terms x.batch.now) x.terms.items _ c.loop-term.term-index _ _ c.loop-term.invariant x.fits
+    c.as_slice-listed.result.now c.as_slice-listed.ensures.value c.loop-term.auto.term-index-end in
     omega (arith, s.1)
 
 pub loop-term-preserved : goal.loop-term-preserved
 loop-term-preserved g c =
-    let more = gathered_more (g.B.Batch.terms c.args.self.now.batch.now) c.as_slice-listed.result.now _ c.loop-term.term-index _ _ c.loop-term.invariant
-    c.as_slice-listed.ensures.fits c.loop-term.auto.term-index-end _ c.loop-term-test.true c.signed_digit-total.result c.reaches_below.result c.if-reaches_below.below
-    c.signed_digit-total.ensures c.reaches_below.ensures in
+    let x = c.args.self.now in
+    let more = gathered_more (g.B.Batch.terms x.batch.now) x.terms.items _ c.loop-term.term-index _ _ c.loop-term.invariant x.fits
+    c.as_slice-listed.result.now c.as_slice-listed.ensures.value c.loop-term.auto.term-index-end _ c.loop-term-test.true
+    c.signed_digit-total.result c.reaches_below.result c.if-reaches_below.below c.signed_digit-total.ensures c.reaches_below.ensures in
     elim c.if-reaches_below.branch [
       | then-reaches_below w ↦ more (w.below-is ∙ ap (λ (b : Bool). c.loop-term.below + cond b 1 0) (sym w.if-reaches_below.true))
       | else-reaches_below w ↦
@@ -38,18 +42,18 @@ loop-term-preserved g c =
 
 pub returns : goal.returns
 returns g c =
-    let ts = g.B.Batch.terms c.args.self.now.batch.now in
-    let xs = c.as_slice-listed.result.now in
-    let ps = listed_parts c.args.self.now in
+    let x = c.args.self.now in
+    let ts = g.B.Batch.terms x.batch.now in
+    let zs = c.as_slice-listed.result.now in
+    let ps = listed_parts x in
     let k = c.args.column in
-    let few = c.as_slice-listed.ensures.fits in
-    let within = c.loop-term.auto.term-index-end in
-    let w = gathered_all ts xs (to_z w32 (of_z w32 k)) c.loop-term.term-index _ c.loop-term.below c.loop-term.invariant few within c.args.self.now.terms.items k
-    c.loop-term-test.false c.as_slice-listed.ensures.value (to_z-of_z w32 k c.ranges.column) in
+    let w = gathered_all ts x.terms.items (to_z w32 (of_z w32 k)) c.loop-term.term-index _ c.loop-term.below c.loop-term.invariant x.fits zs c.as_slice-listed.ensures.value
+    c.loop-term.auto.term-index-end k c.loop-term-test.false (to_z-of_z w32 k c.ranges.column) in
     record {
       total = w.total;
       below = w.below;
-      small = (gathered_small ts xs (to_z w32 (of_z w32 k)) c.loop-term.term-index _ c.loop-term.below c.loop-term.invariant few within).0;
+      small = (gathered_small ts x.terms.items (to_z w32 (of_z w32 k)) c.loop-term.term-index _ c.loop-term.below c.loop-term.invariant x.fits zs
+          c.as_slice-listed.ensures.value c.loop-term.auto.term-index-end).0;
       starts = subst (StartsWith ps k) (sym w.total) (sum_starts ps k);
       goes_on = subst (GoesOnWith ps k) (sym w.total) (sum_goes_on ps k);
     }
