@@ -110,15 +110,6 @@ fn all_of<B: Batch + Drop>(
     }
 }
 
-fn limb_record(exponent: i64, precision: u64, place: usize) -> LimbRecord {
-    LimbRecord {
-        kind: Kind::Positive.number(),
-        exponent,
-        precision,
-        place,
-    }
-}
-
 // Marks two terms and takes one back, turns the third.
 fn mark_first(rt: &impl Print, sheet: &mut OpenSheet) -> io::Result<()> {
     mark(rt, sheet, 0, 1)?;
@@ -131,9 +122,9 @@ fn mark_first(rt: &impl Print, sheet: &mut OpenSheet) -> io::Result<()> {
 fn limbs(rt: &impl Print) -> io::Result<()> {
     println!(rt; "entry: pi - 2^-2000, from limbs\n  lay")?;
     let records = [
-        limb_record(2, 96, 0),
-        limb_record(41, 3, 3),
-        limb_record(-1999, 1, 4),
+        LimbRecord::new(Kind::Positive, 2, 96, 0),
+        LimbRecord::new(Kind::Positive, 41, 3, 3),
+        LimbRecord::new(Kind::Positive, -1999, 1, 4),
     ];
     let mut sheet = OpenSheet::new();
     mark_first(rt, &mut sheet)?;

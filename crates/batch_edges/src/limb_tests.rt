@@ -13,12 +13,7 @@ const ZERO: LimbRecord = LimbRecord {
 };
 
 fn positive(exponent: i64, precision: u64, place: usize) -> LimbRecord {
-    LimbRecord {
-        kind: 5,
-        exponent,
-        precision,
-        place,
-    }
+    LimbRecord::new(Kind::Positive, exponent, precision, place)
 }
 
 #[test]

@@ -48,6 +48,7 @@ fn decide_at(end: End, place: Place, mode: Mode) -> Decision
 }
 
 // The answer where the number lies below the spacing: 0 or one step of the grid.
+// Each step asks for few limbs: a struct for the limbs would save that clause and have every step read its field.
 fn none_kept(unit: i32, raise: bool, answer: &mut [u32]) -> Option<Extent>
     requires some { 0 < length answer.old }
     requires few { length answer.old ≤ most_limbs }

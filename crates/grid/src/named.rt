@@ -1,9 +1,14 @@
 // Named grids: seven binary formats.
+ghost use Rattle.grid.specs.Names.{format_number};
+ghost use Rattle.grid.specs.Formats.{OfFormat, format_numbered};
+ghost use Rattle.grid.specs.Faults.{name_refusal};
+ghost use Rattle.std.specs.Result.{result_err};
+ghost use Rattle.std.specs.Prelude.{◌≡◌, IfOk};
 ghost use Rattle.grid.specs.contracts.floored.FlooredGridGrid.TheImpl.{ghosts as floored};
 
-mod construct;
 mod format;
 
+use crate::fault::GridFault;
 use crate::floored::FlooredGrid;
 use crate::interface::Grid;
 pub use format::Format;
@@ -72,5 +77,27 @@ impl Grid for NamedGrid {
 
     fn spacing(&self, e: i32) -> i32 {
         self.grid.spacing(e)
+    }
+}
+
+impl NamedGrid {
+    ghost use Rattle.grid.specs.contracts.named.NamedGridGrid.TheImpl.{ghosts};
+
+    // The grid of a format.
+    pub fn of(format: Format) -> NamedGrid
+        ensures { OfFormat (format_numbered (format_number format)) (ghosts.spacing result) (ghosts.widest result) }
+    {
+        let Row { width, floor } = ROWS[format as usize];
+        // Each row has an allowed width and floor.
+        let grid = FlooredGrid::new(width, floor).unwrap();
+        NamedGrid { grid }
+    }
+
+    // The grid of a number that a caller hands in, as the published formats are numbered.
+    pub fn new(name: u32) -> Result<NamedGrid, GridFault>
+        ensures refuses { result_err result ≡ name_refusal name }
+        ensures means { IfOk result (λ g. OfFormat (format_numbered name) (ghosts.spacing g) (ghosts.widest g)) }
+    {
+        Ok(NamedGrid::of(Format::try_from(name)?))
     }
 }

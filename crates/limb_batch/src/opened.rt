@@ -1,18 +1,17 @@
 // A limb batch: records over a pool of limbs, with no fault among them.
-ghost use Rattle.std.specs.Prelude.{◌≡◌, false, is_some, MatchOption};
+ghost use Rattle.std.specs.Result.{result_err};
+ghost use Rattle.std.specs.Prelude.{◌≡◌, false, is_some, MatchOption, IfOk};
 ghost use Rattle.batch.specs.TermKinds.{kind_is_regular};
 ghost use Rattle.batch.specs.Lookup.{kind_of_term};
 ghost use Rattle.limb_batch.specs.Records.{record_terms};
-ghost use Rattle.limb_batch.specs.Opening.{opening_fault};
+ghost use Rattle.limb_batch.specs.Opening.{opening_fault, Told};
 ghost use Rattle.limb_batch.specs.SoundRecords.{Words, terms_batchable};
 ghost use Rattle.limb_batch.specs.RegularRecords.{IsTerm};
 
-mod construct;
-
-use crate::check::limb_count;
+use crate::check::{check_records, limb_count};
 use crate::record::LimbRecord;
 use crate::regular::RegularRecord;
-use batch::{Batch, Kind};
+use batch::{Batch, BatchFault, Kind};
 
 #[derive(Clone, Copy)]
 pub struct LimbBatch<'r, 'p> {
@@ -66,5 +65,19 @@ impl<'r, 'p> Batch for LimbBatch<'r, 'p> {
     fn digit(&self, i: usize, column: i32) -> u32 {
         self.regular_record(i)
             .map_or(0, |record| record.digit(column))
+    }
+}
+
+impl<'r, 'p> LimbBatch<'r, 'p> {
+    ghost use Rattle.limb_batch.specs.contracts.opened.LimbBatchBatch.TheImpl.{ghosts};
+
+    // The batch that the records spell, or the fault of the first record that has one.
+    pub fn open(records: &'r [LimbRecord], pool: &'p [u32]) -> Result<LimbBatch<'r, 'p>, BatchFault>
+        ensures refuses { result_err result ≡ opening_fault pool.now records.now }
+        ensures first { Told pool.now records.now (result_err result) }
+        ensures means { IfOk result (λ b. ghosts.terms b ≡ record_terms pool.now records.now) }
+    {
+        check_records(pool, records)?;
+        Ok(LimbBatch { records, pool })
     }
 }

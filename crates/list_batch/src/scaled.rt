@@ -1,7 +1,8 @@
 // A scaled record: count * 2 ^ scale, one term. The law of a record is about any integers: `fits` tells it what their types hold.
 ghost use Rattle.std.specs.Prelude.{◌≡◌, ◌^◌, pos, neg_ℤ, ◌≤ℤ◌, ◌<ℤ◌};
 
-mod terms;
+use crate::record::Record;
+use crate::word_term::WordTerm;
 
 #[derive(Clone, Copy)]
 pub struct Scaled {
@@ -15,5 +16,29 @@ impl Scaled {
         ensures { (result.count ≡ count) × (result.scale ≡ scale) }
     {
         Scaled { count, scale }
+    }
+}
+
+impl Record for Scaled {
+    ghost use Rattle.list_batch.specs.ScaledTerms.{scaled_parts, scaled_lawful};
+
+    const TERMS: usize = 1;
+
+    ghost TERMS = { 1 };
+
+    ghost parts = { scaled_parts };
+
+    ghost lawful = { scaled_lawful };
+
+    fn term(&self, part: usize) -> Option<WordTerm> {
+        match (part, self.count) {
+            (0, 0) => Some(WordTerm::Zero(false)),
+            (0, count) => Some(WordTerm::Regular {
+                negative: count < 0,
+                magnitude: count.unsigned_abs(),
+                weight: self.scale,
+            }),
+            _ => None,
+        }
     }
 }

@@ -12,6 +12,7 @@ pub struct WindowEnd {
     pub partial: bool,
 }
 
+// A bound on the units stands at each function that takes them: they are a number on its way, and no type keeps them.
 // So many units of a column, in units of the column above it. For the ends of a partial sum, whose rest is within 2^43.
 pub fn one_column_up(units: i64) -> WindowEnd
     requires { unsigned_abs units ≤ 2 ^ 44 }

@@ -6,7 +6,7 @@ ghost use Rattle.exact.specs.Integers.{is_negative};
 ghost use Rattle.exact.specs.Limbs.{limbs_value};
 ghost use Rattle.totals.specs.Totals.{totals_value, SmallTotals, flipped};
 
-// A sign, and the limb above those that were written.
+// A sign, and the limb above those that were written: a flag beside a value that it does not decide about.
 #[derive(Clone, Copy, PartialEq, Eq, Debug)]
 pub struct Settled {
     pub negative: bool,

@@ -8,15 +8,6 @@ use std::io;
 // The limbs of 5 (three digits), of 1 + 2^-32 (33 digits), and one whose top bit is clear.
 const POOL: [u32; 4] = [0xa000_0000, 0x8000_0000, 0x8000_0000, 1];
 
-fn limb_record(kind: Kind, exponent: i64, precision: u64, place: usize) -> LimbRecord {
-    LimbRecord {
-        kind: kind.number(),
-        exponent,
-        precision,
-        place,
-    }
-}
-
 // Prints a term's kind, and a regular term's weights and two of its digits.
 fn term<B: Batch>(rt: &impl Print, b: &B, i: usize) -> io::Result<()> {
     let kind = b.kind(i).number();
@@ -71,9 +62,9 @@ fn show_refusal<B: Batch + Drop>(
 
 fn limbs(rt: &impl Print) -> io::Result<()> {
     let records = [
-        limb_record(Kind::Positive, 3, 3, 0),
-        limb_record(Kind::Negative, 1, 33, 1),
-        limb_record(Kind::NegativeZero, 0, 0, 0),
+        LimbRecord::new(Kind::Positive, 3, 3, 0),
+        LimbRecord::new(Kind::Negative, 1, 33, 1),
+        LimbRecord::new(Kind::NegativeZero, 0, 0, 0),
     ];
     show(
         rt,
@@ -98,38 +89,37 @@ fn scaled(rt: &impl Print) -> io::Result<()> {
 
 // Opens one good record and then one with a fault.
 fn try_record(rt: &impl Print, name: &str, record: LimbRecord) -> io::Result<()> {
-    let records = [limb_record(Kind::NotANumber, 0, 0, 0), record];
+    let records = [LimbRecord::new(Kind::NotANumber, 0, 0, 0), record];
     show_refusal(rt, name, LimbBatch::open(&records, &POOL))
 }
 
 fn refused_records(rt: &impl Print) -> io::Result<()> {
-    let unknown = LimbRecord {
-        kind: 7,
-        exponent: 0,
-        precision: 1,
-        place: 0,
-    };
+    let unknown = LimbRecord::new(Kind::Absent, 0, 1, 0);
     try_record(rt, "kind 7", unknown)?;
     try_record(
         rt,
         "precision 4097",
-        limb_record(Kind::Positive, 0, 4097, 0),
+        LimbRecord::new(Kind::Positive, 0, 4097, 0),
     )?;
     try_record(
         rt,
         "exponent 10^9 + 1",
-        limb_record(Kind::Positive, 1_000_000_001, 1, 0),
+        LimbRecord::new(Kind::Positive, 1_000_000_001, 1, 0),
     )?;
     try_record(
         rt,
         "limbs past the pool",
-        limb_record(Kind::Positive, 0, 64, usize::MAX),
+        LimbRecord::new(Kind::Positive, 0, 64, usize::MAX),
     )?;
-    try_record(rt, "a clear top bit", limb_record(Kind::Negative, 0, 32, 3))?;
+    try_record(
+        rt,
+        "a clear top bit",
+        LimbRecord::new(Kind::Negative, 0, 32, 3),
+    )?;
     try_record(
         rt,
         "a bit below the precision",
-        limb_record(Kind::Positive, 0, 2, 0),
+        LimbRecord::new(Kind::Positive, 0, 2, 0),
     )
 }
 

@@ -96,6 +96,7 @@ impl PartialSum {
         head < SMALL_HEAD
     }
 
+    // What a fold and an append ask is what `absorb` asks: they are its two cases.
     fn fold(&mut self, total: i64, column: i32)
         requires absorbs { Absorbs self.old total column }
         requires folds { Folds self.old column }
