@@ -31,6 +31,7 @@ impl KindsCounted {
         let mut kinds = KindsCounted {
             present: [false; 8],
         };
+        // By number: the interface of a batch, which each kind of batch implements, has no iterator.
         for place in 0..batch.count() {
             let kind = counted_kind(marks.at(place as u32), batch.kind(place));
             kinds.add(kind);
