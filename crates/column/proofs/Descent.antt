@@ -11,7 +11,7 @@ use Rattle.std.specs.declared.cmp.Ordering.TheVariants.{Less, Equal, Greater}
 use Rattle.column.specs.Parts.{Part}
 use Rattle.column.specs.Columns.{Spans, Occupies, Occupied, column_of, columns, Falling, Listed}
 use Rattle.column.specs.Walk.{first_column, first_below, Highest, higher, highest_spanned}
-use Rattle.column.proofs.Listing.{floor_is, columns_fall, columns_occupied, occupied_columns}
+use Rattle.column.proofs.Listing.{swap, regrouped, floor_is, columns_fall, columns_occupied, occupied_columns}
 use Rattle.column.proofs.Chain.{in_below}
 
 -- ---- the columns that some weights lie in
@@ -100,20 +100,10 @@ picked_is p z =
     (λ e. omega (arith, ints, clamps))
     (λ e. cond_both (lt_z z p) Greater Equal (λ o. int_max p z ≡ max_by_ordering o p z) (λ f. omega (arith, ints, clamps)) (λ f. omega (arith, ints, clamps)))
 
-regrouped : {A B C : Type 0} → (A ⊎ B) ⊎ C → A ⊎ (B ⊎ C)
-regrouped (inl (inl a)) = inl a
-regrouped (inl (inr b)) = inr (inl b)
-regrouped (inr c) = inr (inr c)
-
-ungrouped : {A B C : Type 0} → A ⊎ (B ⊎ C) → (A ⊎ B) ⊎ C
-ungrouped (inl a) = inl (inl a)
-ungrouped (inr (inl b)) = inl (inr b)
-ungrouped (inr (inr c)) = inr c
-
-swapped : {A B C : Type 0} → A ⊎ (B ⊎ C) → B ⊎ (A ⊎ C)
-swapped (inl a) = inr (inl a)
-swapped (inr (inl b)) = inl b
-swapped (inr (inr c)) = inr (inr c)
+ungrouped : {A B C : Type 0} → (A ⊎ B) ⊎ C → A ⊎ (B ⊎ C)
+ungrouped (inl (inl a)) = inl a
+ungrouped (inl (inr b)) = inr (inl b)
+ungrouped (inr c) = inr (inr c)
 
 module _ {X : Type 0} (b : ℤ) (part_at : X → Part) (h : X → Option ℤ) (each : (x : X) → Highest b (Occupies (part_at x)) (h x)) where
   -- the greatest of a list of columns, from one on
@@ -126,12 +116,12 @@ module _ {X : Type 0} (b : ℤ) (part_at : X → Part) (h : X → Option ℤ) (e
   greatest_more : (P : ℤ → Type 0) (a : ℤ) (x : X) (xs : List X) → Highest b P (Some a) → ((Q : ℤ → Type 0) (c : ℤ) → Highest b Q (Some c) → Highest b (Or Q xs) (from c xs))
       → (r : Option ℤ) → Highest b (Occupies (part_at x)) r → Highest b (Or P (x ∷ xs)) (Some (fold picked a (cons_option r (filter_map h xs))))
   greatest_more P a x xs m further None n =
-      highest_same b (λ k. Occupies (part_at x) k ⊎ Or P xs k) (Or P (x ∷ xs)) (from a xs) (λ k. swapped) (λ k. swapped)
+      highest_same b (λ k. Occupies (part_at x) k ⊎ Or P xs k) (Or P (x ∷ xs)) (from a xs) (λ k. swap) (λ k. swap)
       (highest_either b (Occupies (part_at x)) (Or P xs) None (from a xs) n (further P a m))
   greatest_more P a x xs m further (Some c) n =
       let both = λ (k : ℤ). P k ⊎ Occupies (part_at x) k in
       let two : Highest b both (Some (picked a c)) = subst (λ (z : ℤ). Highest b both (Some z)) (picked_is a c) (highest_either b P (Occupies (part_at x)) (Some a) (Some c) m n) in
-      highest_same b (Or both xs) (Or P (x ∷ xs)) (from (picked a c) xs) (λ k. regrouped) (λ k. ungrouped) (further both (picked a c) two)
+      highest_same b (Or both xs) (Or P (x ∷ xs)) (from (picked a c) xs) (λ k. ungrouped) (λ k. regrouped) (further both (picked a c) two)
 
   greatest_from : (xs : List X) (P : ℤ → Type 0) (a : ℤ) → Highest b P (Some a) → Highest b (Or P xs) (from a xs)
   greatest_from [] P a m = highest_same b P (λ k. P k ⊎ ⊥) (Some a) (λ k p. inl p) (λ k o. elim o [ inl p ↦ p | inr e ↦ absurd e ]) m

@@ -14,7 +14,7 @@ either : {A B C D : Type 0} → (A → C) → (B → D) → A ⊎ B → C ⊎ D
 either f g (inl a) = inl (f a)
 either f g (inr b) = inr (g b)
 
-swap : {A B C : Type 0} → A ⊎ (B ⊎ C) → B ⊎ (A ⊎ C)
+pub swap : {A B C : Type 0} → A ⊎ (B ⊎ C) → B ⊎ (A ⊎ C)
 swap (inl a) = inr (inl a)
 swap (inr (inl b)) = inl b
 swap (inr (inr c)) = inr (inr c)
@@ -62,7 +62,7 @@ last_run : (k : ℤ) (n : ℕ) (x : ℤ) → (x ≡ k +ℤ pos n) ⊎ Run k n x 
 last_run k n x (inl e) = (omega (arith, ints), omega (arith, ints))
 last_run k n x (inr (a, b)) = (a, omega (arith, ints))
 
-regrouped : {A B C : Type 0} → A ⊎ (B ⊎ C) → (A ⊎ B) ⊎ C
+pub regrouped : {A B C : Type 0} → A ⊎ (B ⊎ C) → (A ⊎ B) ⊎ C
 regrouped (inl a) = inl (inl a)
 regrouped (inr (inl b)) = inl (inr b)
 regrouped (inr (inr c)) = inr c

@@ -60,6 +60,7 @@ impl Descent {
         requires room { length answer.old ≡ 128 }
         ensures { RoundedTo (G.Grid.spacing rounding.entry.grid.now) (mode_of rounding.entry.mode) (listed_parts terms.now) result.end result.depth (limbs_value answer.new) }
     {
+        // The way out is in the middle: a turn tells the answer, or else finds the next column.
         loop {
             let below = Below {
                 reaching: self.reaching as u32,

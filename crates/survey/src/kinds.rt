@@ -37,7 +37,7 @@ impl KindsCounted {
         let mut kinds = KindsCounted {
             present: [false; 8],
         };
-        // A batch is read by number: it has no slice to go through.
+        // By number: the interface of a batch, which each kind of batch implements, has no iterator.
         for place in 0..batch.count() {
             let kind = counted_kind(marks.at(place as u32), batch.kind(place));
             kinds.add(kind);

@@ -18,7 +18,7 @@ impl<'b, B: Batch> CountedTerms<'b, B> {
         ensures { listed_parts result ≡ parts_of (shown marks.now) (B.Batch.terms batch.now) }
     {
         let mut terms = ArrayVec::new();
-        // A batch is read by number: it has no slice to go through.
+        // By number: the interface of a batch, which each kind of batch implements, has no iterator.
         for place in 0..batch.count() {
             let kind = counted_kind(marks.at(place as u32), batch.kind(place));
             if kind.is_regular() {

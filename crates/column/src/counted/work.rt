@@ -26,6 +26,7 @@ impl<'b, B: Batch> CountedTerms<'b, B> {
         ensures starts { StartsWith (listed_parts self.now) column result.0 }
         ensures goes_on { GoesOnWith (listed_parts self.now) column result.0 }
     {
+        // One pass for both, as a loop: two chains would go through the terms twice.
         let mut total: i64 = 0;
         let mut below: usize = 0;
         let listed = self.terms.as_slice();
