@@ -13,9 +13,8 @@ fn copy_top(number: BoundedLimbs, limbs: &mut [u32])
     ensures { limbs_value limbs.new ≡ limbs_value number.entry.limbs.now * 2 ^ (32 * length limbs.old) / 2 ^ number.entry.bits }
 {
     let count = limbs.len();
-    // Written by index: after iter_mut a proof knows the slice's length, not its elements.
-    for j in 0..count {
-        limbs[j] = moved_bits(&number.limbs, 32 * (count - j), number.bits);
+    for (j, limb) in limbs.iter_mut().enumerate() {
+        *limb = moved_bits(&number.limbs, 32 * (count - j), number.bits);
     }
 }
 
@@ -35,10 +34,9 @@ fn add_unit(limbs: &mut [u32], s: usize) -> bool
     ensures { limbs_value limbs.new + bit result * 2 ^ (32 * length limbs.old) ≡ limbs_value limbs.old + 2 ^ s }
 {
     let mut carry = 1 << s;
-    // Written by index: after iter_mut a proof knows the slice's length, not its elements.
-    for i in 0..limbs.len() {
-        let (sum, carries) = limbs[i].overflowing_add(carry);
-        limbs[i] = sum;
+    for limb in limbs.iter_mut() {
+        let (sum, carries) = limb.overflowing_add(carry);
+        *limb = sum;
         carry = u32::from(carries);
     }
     carry != 0

@@ -3,6 +3,6 @@ use Rattle.std.proofs.Common.{◌≡◌, ◌+◌, ◌*◌, ◌^◌, ◌<◌, ◌
 use Rattle.exact.specs.Limbs.{limbs_value}
 use Rattle.limbs.proofs.top.add_unit.Given as goal
 
-abbrev pub invariant-loop-i : goal.invariant-loop-i
-invariant-loop-i l = (l.carry < 4294967296) × (0 < l.i → l.carry ≤ 1) × (drop l.i l.limbs ≡ drop l.i l.initial.limbs)
-    × (limbs_value (take l.i l.limbs) + l.carry * 2 ^ (32 * l.i) ≡ limbs_value (take l.i l.initial.limbs) + 2 ^ l.s)
+abbrev pub invariant-loop-limb : goal.invariant-loop-limb
+invariant-loop-limb l = (l.carry < 4294967296) × (0 < l.limb-index → l.carry ≤ 1) × (drop l.limb-index l.limbs ≡ drop l.limb-index l.initial.limbs)
+    × (limbs_value (take l.limb-index l.limbs) + l.carry * 2 ^ (32 * l.limb-index) ≡ limbs_value (take l.limb-index l.initial.limbs) + 2 ^ l.s)
