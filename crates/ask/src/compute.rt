@@ -77,7 +77,7 @@ fn rounded_answer(
     plain_answer(Kind::zero(negative), end.direction, rounded.depth, limbs)
 }
 
-// The answer where only finite terms count.
+// The answer where only finite terms count. Marks, batch and rounding go on as they came: a struct of them would be taken apart one call further down.
 fn finite_answer<B: Batch, G: Grid>(
     exact_zero_negative: bool,
     marks: &Marks,

@@ -17,12 +17,12 @@ impl From<NoSuchMode> for AskFault {
     ghost from_gives = { λ _ r. r ≡ NoSuchMode };
 
     fn from(_fault: NoSuchMode) -> AskFault {
-        AskFault::NoSuchMode
+        Self::NoSuchMode
     }
 }
 
 impl AskFault {
-    // The published number of the refusal.
+    // The published number of the refusal. Written out: a variant with a value has no number of its own.
     pub fn number(self) -> u32
         ensures { result ≡ (fault_refusal self).number }
     {

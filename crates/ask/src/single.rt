@@ -16,6 +16,7 @@ use batch::Batch;
 use grid::{Grid, Mode, Rounding};
 use sheet::sheet::SetSheet;
 
+// Takes what an ask takes, each by itself. The mode is a number that a caller hands in: one that no mode has is refused.
 // Sums the terms that the sheet marks, exactly, and rounds the sum once to the grid in the mode of this number. The limbs of the answer are left in `limbs`.
 pub fn ask<B: Batch, G: Grid>(
     sheet: &SetSheet,

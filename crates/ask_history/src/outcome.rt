@@ -32,7 +32,7 @@ impl From<AskFault> for CallFault {
 }
 
 impl CallFault {
-    // The published number of the refusal.
+    // The published number of the refusal. Written out: a variant with a value has no number of its own.
     pub fn number(self) -> u32
         ensures { result ≡ (call_fault_refusal self).number }
     {

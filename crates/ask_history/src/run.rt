@@ -24,7 +24,7 @@ pub fn run<'a, B: Batch, G: Grid + Copy>(
     for (i, &wanted) in calls[..turns].iter().enumerate() {
         let (next, outcome) = call(sheet, batches, wanted);
         sheet = next;
-        // By index: of a slice written through iter_mut a proof knows the length, not the elements.
+        // By index: of a slice written through iter_mut().zip(..) a proof knows no element.
         outcomes[i] = outcome;
     }
     sheet

@@ -25,6 +25,7 @@ fn is_raised(mode: Mode, negative: bool, odd: bool, half: bool, rest: bool) -> b
 }
 
 // Are the bits that are kept raised by one, and was anything left out below them?
+// Two flags: the writing asks for one, the direction for the other.
 #[derive(Clone, Copy)]
 pub struct Decision {
     pub raise: bool,

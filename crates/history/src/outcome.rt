@@ -26,7 +26,7 @@ impl From<SheetFault> for CallFault {
 }
 
 impl CallFault {
-    // The published number of the refusal.
+    // The published number of the refusal. Written out: a variant with a value has no number of its own.
     pub fn number(self) -> u32
         ensures { result ≡ call_fault_number self }
     {

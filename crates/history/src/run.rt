@@ -15,7 +15,7 @@ pub fn run(calls: &[SheetCall], outcomes: &mut [Outcome]) -> Sheet
     for (i, &call) in calls[..turns].iter().enumerate() {
         let (next, outcome) = sheet.call(call);
         sheet = next;
-        // By index: of a slice written through iter_mut a proof knows the length, not the elements.
+        // By index: of a slice written through iter_mut().zip(..) a proof knows no element.
         outcomes[i] = outcome;
     }
     sheet

@@ -47,7 +47,7 @@ pub fn any_below(limbs: &[u32], at: usize) -> bool
         || limb(limbs, whole) as u64 % (1 << (at % 32)) != 0
 }
 
-// How many bits the number has. For the rounding of an end, whose limbs are few.
+// How many bits the number has. For the rounding of an end, whose limbs are few: 32 times their number has to fit a usize, and no slice says that.
 pub fn bit_length(limbs: &[u32]) -> usize
     requires { length limbs.now ≤ most_limbs }
     ensures is { result ≡ size (limbs_value limbs.now) }

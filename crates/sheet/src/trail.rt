@@ -15,7 +15,7 @@ pub struct Step {
     pub before: Mark,
 }
 
-// What a slot of a trail holds that is not used.
+// What a slot of a trail holds that is not used. By hand: a place has a ghost field, and no Default is derived over one.
 impl Default for Step {
     fn default() -> Step {
         Step {

@@ -48,7 +48,7 @@ pub fn lay(rt: &impl Print) -> io::Result<OpenSheet>
     Ok(sheet)
 }
 
-// Gives a place a mark, and prints what came of it.
+// Gives a place a mark, and prints what came of it. Both are any numbers, as the sheet takes them.
 pub fn mark(rt: &impl Print, sheet: &mut OpenSheet, place: u32, mark: u32) -> io::Result<()>
     ensures { IfOk result (λ _. (cs : History) → Reached cs sheet.old → Reached (cs ++ marking place mark ∷ []) sheet.new) }
 {

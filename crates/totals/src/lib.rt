@@ -43,7 +43,7 @@ fn carry_up(totals: &[i64], flip: bool, limbs: &mut [u32]) -> i64
     let mut carry: i64 = 0;
     for (i, &total) in totals.iter().enumerate() {
         let (rest, low) = split(flipped(flip, total) + carry);
-        // Written by index: after iter_mut a proof knows the slice's length, not its elements.
+        // By index: of a slice written through iter_mut().zip(..) a proof knows no element.
         limbs[i] = low;
         carry = rest;
     }

@@ -9,6 +9,6 @@ pub fn answer_line(heap: Global, case: &Case) -> Result<String, AllocError> {
     let (records, pool) = (case.records.as_slice(), case.pool.as_slice());
     match ask_whole(records, pool, case.width, case.mode, 0, &mut limbs) {
         Ok(answer) => write_answer(heap, answer, &limbs),
-        Err(fault) => write_refusal(heap, fault.number()),
+        Err(fault) => write_refusal(heap, fault),
     }
 }

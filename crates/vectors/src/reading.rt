@@ -51,6 +51,7 @@ pub fn read_case(heap: Global, line: &str) -> anyhow::Result<Case> {
     let width = words.number::<u32>()?;
     let mut records = Vec::new(heap);
     let mut pool = Vec::new(heap);
+    // A term takes several words, so that no chain over words gives the terms.
     for _ in 0..MOST_READ {
         if words.are_done() {
             break;

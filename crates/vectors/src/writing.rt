@@ -1,12 +1,15 @@
 // The line of an outcome.
 ghost use Rattle.std.specs.Prelude.{◌≡◌, ◌++◌, IfOk, string_bytes, codes, decimal};
+ghost use Rattle.whole_ask.specs.Told.{fault_refusal};
 
 use ask::Answer;
 use std::alloc::{AllocError, Global};
+use whole_ask::WholeFault;
 
-pub fn write_refusal(heap: Global, number: u32) -> Result<String, AllocError>
-    ensures { IfOk result (λ s. string_bytes s ≡ codes "no " ++ decimal number) }
+pub fn write_refusal(heap: Global, fault: WholeFault) -> Result<String, AllocError>
+    ensures { IfOk result (λ s. string_bytes s ≡ codes "no " ++ decimal (fault_refusal fault).number) }
 {
+    let number = fault.number();
     format!(in heap; "no {number}")
 }
 

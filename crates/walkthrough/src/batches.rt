@@ -22,6 +22,7 @@ fn describe<B: Batch>(rt: &impl Print, name: &str, b: &B) -> io::Result<()> {
     let count = b.count();
     let regular = regular_count(b);
     println!(rt; "  {name}: {count} terms, {regular} regular")?;
+    // By number: the interface of a batch has no iterator.
     for i in 0..count {
         term(rt, b, i)?;
     }

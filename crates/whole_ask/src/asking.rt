@@ -33,6 +33,7 @@ fn repeat_ask<B: Batch, G: Grid>(
     result
 }
 
+// Width and mode are numbers that a caller hands in: those that are none are refused.
 // Opens the batch, and asks for the sum of all its terms on the free grid of this width, once and `repeats` times more. A refusal leaves the limbs as they were.
 pub fn ask_whole(
     terms: &[LimbRecord],

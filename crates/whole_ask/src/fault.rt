@@ -16,11 +16,12 @@ pub enum WholeFault {
     Ask(AskFault),
 }
 
+// By hand, and so are the others: a From that thiserror writes has no contract.
 impl From<BatchFault> for WholeFault {
     ghost from_gives = { λ f r. r ≡ Batch f };
 
     fn from(fault: BatchFault) -> WholeFault {
-        WholeFault::Batch(fault)
+        Self::Batch(fault)
     }
 }
 
@@ -28,7 +29,7 @@ impl From<GridFault> for WholeFault {
     ghost from_gives = { λ f r. r ≡ Grid f };
 
     fn from(fault: GridFault) -> WholeFault {
-        WholeFault::Grid(fault)
+        Self::Grid(fault)
     }
 }
 
@@ -36,7 +37,7 @@ impl From<SheetFault> for WholeFault {
     ghost from_gives = { λ f r. r ≡ Sheet f };
 
     fn from(fault: SheetFault) -> WholeFault {
-        WholeFault::Sheet(fault)
+        Self::Sheet(fault)
     }
 }
 
@@ -44,12 +45,12 @@ impl From<AskFault> for WholeFault {
     ghost from_gives = { λ f r. r ≡ Ask f };
 
     fn from(fault: AskFault) -> WholeFault {
-        WholeFault::Ask(fault)
+        Self::Ask(fault)
     }
 }
 
 impl WholeFault {
-    // The published number of the refusal.
+    // The published number of the refusal. Written out: a variant with a value has no number of its own.
     pub fn number(self) -> u32
         ensures { result ≡ (fault_refusal self).number }
     {

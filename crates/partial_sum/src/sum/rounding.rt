@@ -73,6 +73,7 @@ impl PartialSum {
         round_settled(settled, rounding, answer)
     }
 
+    // That columns are in reach is asked here and below, and is no ghost field: `new` and `absorb` take any column.
     // The exponent of the window's number is at most this: 32 bits for each total, and 21 more for the head, which is below 2^53 together
     // with what the totals below it come to.
     fn top_exponent(&self) -> i32
