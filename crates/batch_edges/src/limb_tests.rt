@@ -135,5 +135,6 @@ fn too_many_records(rt: HostRuntime) -> Result<(), Fail> {
     let fault = LimbBatch::open(&records, &pool).err().ok_or("not refused")?;
     assert_eq!(rt; fault, BatchFault::TooManyTerms);
     assert_eq!(rt; (fault.number(), fault.place()), (1, 0));
+    assert_eq!(rt; LimbBatch::open(&records[..0], &pool)?.count(), 0);
     Ok(())
 }

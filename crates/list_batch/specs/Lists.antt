@@ -1,5 +1,5 @@
 -- A list of records, each of which means the same number of terms, as one list of terms.
-use Rattle.std.specs.Prelude.{◌≡◌, ℕ, ◌/◌, ◌%◌, ◌<◌, ◌≤◌, cond, List, [], ◌∷◌, ◌++◌, length, Some, None, Option, nat_lt, slice_index_or}
+use Rattle.std.specs.Prelude.{◌≡◌, ℕ, ◌/◌, ◌%◌, ◌<◌, ◌≤◌, cond, List, [], ◌∷◌, ◌++◌, length, take, Some, None, Option, nat_lt, slice_index_or}
 use Rattle.std.specs.List.{AllByRecursion, slice_get}
 use Rattle.batch.specs.Term.{Term, Limited, most_terms}
 use Rattle.batch.specs.declared.fault.BatchFault.{BatchFault}
@@ -16,6 +16,10 @@ pub record LawfulRecord {X : Type 0} (width : ℕ) (parts : X → List Term) : T
 abbrev pub flat : {X : Type 0} → (X → List Term) → List X → List Term
 flat parts [] = []
 flat parts (x ∷ xs) = parts x ++ flat parts xs
+
+-- the first 1,024 terms of the records
+abbrev pub list_terms : {X : Type 0} → (X → List Term) → List X → List Term
+list_terms parts xs = take most_terms (flat parts xs)
 
 -- so many terms are refused unless they are at most 1,024
 abbrev pub list_fault : ℕ → Option BatchFault

@@ -6,7 +6,7 @@ ghost use Rattle.std.specs.List.{slice_get};
 ghost use Rattle.batch.specs.Term.{most_terms};
 ghost use Rattle.list_batch.specs.WordTerms.{spelled};
 ghost use Rattle.list_batch.specs.Lists.{flat, list_fault, PartsInOrder};
-ghost use Rattle.list_batch.specs.ListLimits.{list_batchable};
+ghost use Rattle.list_batch.specs.ListLimits.{flat_batchable};
 
 use crate::record::Record;
 use crate::word_term::WordTerm;
@@ -42,7 +42,7 @@ impl<'a, R: Record> ListBatch<'a, R> {
 impl<'a, R: Record> Batch for ListBatch<'a, R> {
     ghost terms = { λ b. flat R.Record.parts b.records.now };
 
-    ghost limited = { λ b. list_batchable R.Record.lawful b.records.now b.few };
+    ghost limited = { λ b. flat_batchable R.Record.lawful b.records.now b.few };
 
     fn count(&self) -> usize {
         self.records.len() * R::TERMS
