@@ -9,56 +9,32 @@ use Rattle.ask.proofs.Asking.{as_read}
 use Rattle.ask.proofs.Enclosing.{both_refused, both_right, both_enclose, both_reached}
 use Rattle.ask.proofs.both.ask_both.Goals as goal
 
-pub returns-in_err-check : goal.returns-in_err-check
-returns-in_err-check g c =
+pub returns-in_err-check-clause-both : goal.returns-in_err-check-clause-both
+returns-in_err-check-clause-both g c =
     let ts = g.B.Batch.terms c.args.batch.now in
     let u = g.G.Grid.spacing c.args.grid.now in
     let w = g.G.Grid.widest c.args.grid.now in
     let low = c.args.low.now in
     let high = c.args.high.now in
-    let shows = shown c.args.sheet.now.marks in
-    let r = c.from_residual.result in
-    let both : BothAsked shows (question ts u w 1 (length low)) (question ts u w 2 (length high)) r low high =
-    both_refused shows (question ts u w 1 (length low)) (question ts u w 2 (length high)) c.in_err-check.field-0.0 r low high c.from_residual.ensures.1
+    both_refused (shown c.args.sheet.now.marks) (question ts u w 1 (length low)) (question ts u w 2 (length high)) c.in_err-check.field-0.0 c.from_residual.result low high c.from_residual.ensures.1
     (inl (sym (as_read _ _ c.width-width.result _ ts u 1 (length low) c.marks-marks.ensures.same c.width-width.ensures)
-    ∙ c.in_err-check.ensures ts u 1 downward (sym c.count-terms.ensures) refl)) in
-    let limited = g.B.Batch.limited c.args.batch.now in
-    let lawful = g.G.Grid.lawful c.args.grid.now in
-    record {
-      both = both;
-      refused = λ _. (refl, refl);
-      right = both_right ts u w (length low) (length high) limited lawful shows r low high both;
-      encloses = both_enclose ts u w (length low) (length high) limited lawful shows r low high both;
-      reached = both_reached ts u w (length low) (length high) limited lawful c.args.sheet.now r low high both;
-    }
+    ∙ c.in_err-check.ensures ts u 1 downward (sym c.count-terms.ensures) refl))
 
-pub returns-in_err-check-2 : goal.returns-in_err-check-2
-returns-in_err-check-2 g c =
+pub returns-in_err-check-2-clause-both : goal.returns-in_err-check-2-clause-both
+returns-in_err-check-2-clause-both g c =
     let ts = g.B.Batch.terms c.args.batch.now in
     let u = g.G.Grid.spacing c.args.grid.now in
     let w = g.G.Grid.widest c.args.grid.now in
     let low = c.args.low.now in
     let high = c.args.high.now in
-    let shows = shown c.args.sheet.now.marks in
-    let r = c.from_residual-in_err-check-2.result in
-    let both : BothAsked shows (question ts u w 1 (length low)) (question ts u w 2 (length high)) r low high =
-    both_refused shows (question ts u w 1 (length low)) (question ts u w 2 (length high)) c.in_err-check-2.field-0.0 r low high c.from_residual-in_err-check-2.ensures.1
+    both_refused (shown c.args.sheet.now.marks) (question ts u w 1 (length low)) (question ts u w 2 (length high)) c.in_err-check-2.field-0.0 c.from_residual-in_err-check-2.result low high c.from_residual-in_err-check-2.ensures.1
     (inr (
       _,
       sym (as_read _ _ c.width-width.result _ ts u 1 (length low) c.marks-marks.ensures.same c.width-width.ensures)
           ∙ c.in_ok-check.ensures ts u 1 downward (sym c.count-terms.ensures) refl,
       sym (as_read _ _ c.width-width.result _ ts u 2 (length high) c.marks-marks.ensures.same c.width-width.ensures)
           ∙ c.in_err-check-2.ensures ts u 2 upward (sym c.count-terms.ensures) refl,
-    )) in
-    let limited = g.B.Batch.limited c.args.batch.now in
-    let lawful = g.G.Grid.lawful c.args.grid.now in
-    record {
-      both = both;
-      refused = λ _. (refl, refl);
-      right = both_right ts u w (length low) (length high) limited lawful shows r low high both;
-      encloses = both_enclose ts u w (length low) (length high) limited lawful shows r low high both;
-      reached = both_reached ts u w (length low) (length high) limited lawful c.args.sheet.now r low high both;
-    }
+    ))
 
 pub returns : goal.returns
 returns g c =
