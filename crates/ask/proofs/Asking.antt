@@ -30,9 +30,6 @@ pub as_read : (ms ns : Marks) (v w : ℕ) (ts : List Term) (u : ℤ → ℤ) (m 
 as_read ms ns v w ts u m n e f = ap (λ (x : Marks). asked (shown x) (question ts u v m n)) e ∙ ap (λ (x : ℕ). asked (shown ns) (question ts u x m n)) f
 
 -- ---- a refusal that is handed on
-pub told_refused : (f : AskFault) (r : Result Answer AskFault) (ls : List ℕ) → IsErrAnd r (λ y. y ≡ f) → told r ls ≡ refused (fault_refusal f)
-told_refused f r ls exit = let p = err_from_is_err_and r exit in ap (λ (x : Result Answer AskFault). told x ls) (p.1 ∙ ap Err p.2)
-
 -- ---- two questions about one batch and grid ask for one sum
 down_encloses : (p q : Question) → Twins p q → (marks : ℕ → Mark) (a b : Published) → Enclosing marks q a b → Enclosing marks p a b
 down_encloses p q twins marks a b h =

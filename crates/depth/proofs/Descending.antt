@@ -29,11 +29,6 @@ use Rattle.depth.proofs.Settled.{EndsAlike, next_is, lower_is, upper_is}
 abbrev pub left : Descent → ℕ
 left s = gap s.column (neg_ℤ (pos 60000001))
 
--- there is a next column where the ends do not round alike
-pub undecided_some : (u : ℤ → ℤ) (m : Mode) (p : PartialSum) (n : ℕ) (below : Option ℤ) → Undecided u m p n below → is_some below ≡ true
-undecided_some u m p n None h = absurd h
-undecided_some u m p n (Some d) h = refl
-
 -- ---- the first column
 listed_first : (c : ℤ) (l : List ℤ) → Some c ≡ first_column l → (cs : List ℤ) × (l ≡ c ∷ cs)
 listed_first c [] e = let z : ◌≡◌ {A = ℕ} 0 1 = cc in absurd (omega arith)

@@ -1,20 +1,7 @@
--- Integers in two parts, c * P + l with a natural l below P: signs, opposites, and one digit more.
-use Rattle.std.proofs.Common.{◌≡◌, ℕ, ◌+◌, ◌*◌, ◌<◌, ℤ, pos, ◌+ℤ◌, ◌*ℤ◌, neg_ℤ, nat_abs, ◌≤ℤ◌, ◌<ℤ◌, sym, ap, ◌∙◌, mul_assoc, mul_comm, add-mul, arith}
+-- Integers in two parts, c * P + l with a natural l below P, and digits of 32 bits: one digit more.
+use Rattle.std.proofs.Common.{◌≡◌, ℕ, ◌+◌, ◌*◌, ℤ, pos, ◌+ℤ◌, ◌*ℤ◌, sym, ap, ◌∙◌, mul_assoc, mul_comm, add-mul, arith}
 use borrow.Author.Differences.{ints, up, down}
 
--- the natural that it reads as, where c is not below 0
-pub parts_natural : (c : ℤ) (P l : ℕ) → pos 0 ≤ℤ c → c *ℤ pos P +ℤ pos l ≡ pos (nat_abs c * P + l)
-parts_natural c P l h = grind (arith, ints)
-
--- an integer below 0 and its opposite
-module _ (v c d : ℤ) (P l m : ℕ) (small : l < P) (small-m : m < P) (is : v ≡ c *ℤ pos P +ℤ pos l) (opposite : neg_ℤ v ≡ d *ℤ pos P +ℤ pos m) (minus : c <ℤ pos 0) where
-  pub opposite_natural : pos 0 ≤ℤ d
-  opposite_natural = grind (arith, ints)
-
-  pub opposite_magnitude : (v <ℤ pos 0) × (nat_abs v ≡ nat_abs d * P + m)
-  opposite_magnitude = grind (arith, ints)
-
--- ---- digits of 32 bits
 -- a digit t at P and a carry c into it make a digit l and a carry q out of it
 pub carry_over : (t c q v : ℤ) (l L P Q : ℕ) → t +ℤ c ≡ q *ℤ pos 4294967296 +ℤ pos l → v ≡ c *ℤ pos P +ℤ pos L → Q ≡ 4294967296 * P
     → v +ℤ (t *ℤ pos P) ≡ q *ℤ pos Q +ℤ pos (L + l * P)

@@ -1,11 +1,11 @@
 -- Limbs that are written one by one, from the least significant on.
-use Rattle.std.proofs.Common.{◌≡◌, ℕ, zero, suc, ◌+◌, ◌-◌, ◌*◌, ◌/◌, ◌%◌, ◌^◌, ◌<◌, ◌≤◌, List, [], ◌∷◌, ◌++◌, length, get_or, take, drop, set, sym, ap, ◌∙◌, lt_of_lt_of_le, mul-le-mul_right, mul_assoc, mul_comm, add-mul, div-add-mod', arith, pow_pos, pow_mono, pow-add, shr-shr}
-use native.Mathlib.Nat.{add-mul-div_right, div-eq_of_lt}
+use Rattle.std.proofs.Common.{◌≡◌, ℕ, zero, suc, ◌+◌, ◌-◌, ◌*◌, ◌/◌, ◌%◌, ◌^◌, ◌<◌, ◌≤◌, List, [], ◌∷◌, ◌++◌, length, get_or, take, drop, set, sym, ap, ◌∙◌, mul-le-mul_right, mul_assoc, mul_comm, add-mul, div-add-mod', arith, pow_pos, pow-add, shr-shr}
+use native.Mathlib.Nat.{add-mul-div_right}
 use Rattle.std.proofs.lemmas.Nat.{mod-pow-add}
 use Rattle.std.proofs.lemmas.List.{take_more_set, length-take-le, set-get_or, drop-drop, drop-set-lt}
 use Rattle.exact.specs.Limbs.{limbs_value}
 use Rattle.exact.proofs.Multiples.{pow_split}
-use Rattle.exact.proofs.Shifts.{shift_both, shift_below}
+use Rattle.exact.proofs.Shifts.{shift_both}
 use Rattle.exact.proofs.LimbBits.{pow_next_limb, first_of_rest}
 
 pub value_push : (xs : List ℕ) (v : ℕ) → limbs_value (xs ++ v ∷ []) ≡ limbs_value xs + v * 2 ^ (32 * length xs)
@@ -47,12 +47,6 @@ digit_set s j v m l h e =
 pub top_digit : (n b c j : ℕ) → j < c → n * 2 ^ (32 * c) / 2 ^ b / 2 ^ (32 * j) ≡ n * 2 ^ (32 * (c - j)) / 2 ^ b
 top_digit n b c j h =
     shr-shr (n * 2 ^ (32 * c)) b (32 * j) ∙ ap (λ (y : ℕ). n * 2 ^ y / 2 ^ (b + 32 * j)) (let e : 32 * c ≡ 32 * (c - j) + 32 * j = omega arith in e) ∙ shift_both n (32 * (c - j)) b (32 * j)
-
-pub no_top_digit : (n b c j : ℕ) → n < 2 ^ b → c ≤ j → n * 2 ^ (32 * c) / 2 ^ b / 2 ^ (32 * j) % 4294967296 ≡ 0
-no_top_digit n b c j h l =
-    let a = shift_below n b (32 * c) h in
-    let p : 2 ^ (32 * c) ≤ 2 ^ (32 * j) = pow_mono (omega arith) in
-    ap (λ (y : ℕ). y % 4294967296) (div-eq_of_lt (lt_of_lt_of_le a p))
 
 -- ---- the lowest s bits made 0
 pub clear_first : (x s : ℕ) (xs : List ℕ) → s < 32 → (x - x % 2 ^ s) + 4294967296 * limbs_value xs ≡ (x + 4294967296 * limbs_value xs) / 2 ^ s * 2 ^ s

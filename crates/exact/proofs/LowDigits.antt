@@ -1,5 +1,5 @@
 -- The lowest 32 digits of a number times or divided by a power of two, and its length then.
-use Rattle.std.proofs.Common.{◌≡◌, ℕ, suc, ◌+◌, ◌-◌, ◌*◌, ◌/◌, ◌%◌, ◌^◌, ◌<◌, ◌≤◌, sym, ap, ◌∙◌, lt_of_lt_of_le, mul_assoc, add-mul, arith, pow_pos, pow_mono, pow-add}
+use Rattle.std.proofs.Common.{◌≡◌, ℕ, suc, ◌+◌, ◌-◌, ◌*◌, ◌/◌, ◌%◌, ◌^◌, ◌<◌, ◌≤◌, sym, ap, ◌∙◌, lt_of_lt_of_le, mul_assoc, arith, pow_pos, pow_mono, pow-add}
 use native.Mathlib.Nat.{div-eq_of_lt}
 use lib.Ieee.{size}
 use lib.Ieee.Digits.{size-lt, size_reaches}
@@ -10,12 +10,6 @@ pub raised_away : (n u : ℕ) → 32 ≤ u → 0 ≡ n * 2 ^ u % 2 ^ 32
 raised_away n u h =
     let d : u ≡ (u - 32) + 32 = omega arith in
     let e : n * 2 ^ u ≡ n * 2 ^ (u - 32) * 2 ^ 32 = ap (λ x. n * 2 ^ x) d ∙ ap (λ x. n * x) (pow-add 2 (u - 32) 32) ∙ sym (mul_assoc n (2 ^ (u - 32)) (2 ^ 32)) in
-    omega arith
-
-pub raised_low : (n p : ℕ) → n % 2 ^ 32 * p % 2 ^ 64 % 2 ^ 32 ≡ n * p % 2 ^ 32
-raised_low n p =
-    let s : n ≡ n % 2 ^ 32 + 2 ^ 32 * (n / 2 ^ 32) = omega arith in
-    let e : n * p ≡ n % 2 ^ 32 * p + 2 ^ 32 * (n / 2 ^ 32 * p) = ap (λ x. x * p) s ∙ add-mul (n % 2 ^ 32) (2 ^ 32 * (n / 2 ^ 32)) p ∙ ap (λ x. n % 2 ^ 32 * p + x) (mul_assoc (2 ^ 32) (n / 2 ^ 32) p) in
     omega arith
 
 pub lowered_away : (n o : ℕ) → n < 2 ^ 64 → 64 ≤ o → 0 ≡ n / 2 ^ o % 2 ^ 32

@@ -12,10 +12,6 @@ parts_below q b d r h l = grind arith
 pub parts_some : (q d r : ℕ) → 0 < d → ltb 0 (q * d + r) ≡ cond (ltb 0 q) true (ltb 0 r)
 parts_some q d r h = grind arith
 
--- no multiple of d fits below d
-pub parts_none : (n r q d : ℕ) → n ≡ r + q * d → n < d → q ≡ 0
-parts_none n r q d h g = grind arith
-
 -- r adds no bit
 pub size_parts : (n j r : ℕ) → 0 < n → r < 2 ^ j → size (n * 2 ^ j + r) ≡ size n + j
 size_parts n j r h l = from_top (size_top n h)

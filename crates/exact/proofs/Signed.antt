@@ -1,5 +1,5 @@
 -- An integer by its sign and its magnitude.
-use Rattle.std.proofs.Common.{◌≡◌, ℕ, ◌<◌, Bool, true, ℤ, pos, nat_abs, ◌<ℤ◌, arith}
+use Rattle.std.proofs.Common.{◌≡◌, ℕ, ◌<◌, Bool, nat_abs, arith}
 use borrow.Author.Differences.{ints}
 use Rattle.exact.specs.Integers.{is_negative, signed}
 
@@ -8,6 +8,3 @@ abs_signed s n = grind (arith, ints)
 
 pub negative_signed : (s : Bool) (n : ℕ) → 0 < n → is_negative (signed s n) ≡ s
 negative_signed s n h = grind (arith, ints)
-
-pub negative_below : (z : ℤ) → z <ℤ pos 0 → is_negative z ≡ true
-negative_below z h = grind (arith, ints)

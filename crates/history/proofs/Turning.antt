@@ -26,13 +26,5 @@ fitting_push {Q} cs c fit = fitting_from_push true cs c ∙ ap (λ (l : List (Ca
 pub fitting_skip : {Q : Type 0} (cs : List (Call Q)) (c : Call Q) → fits (open_after cs) c ≡ false → fitting (cs ++ c ∷ []) ≡ fitting cs
 fitting_skip {Q} cs c unfit = fitting_from_push true cs c ∙ ap (λ (l : List (Call Q)). fitting cs ++ l) (cond-false _ _ _ unfit) ∙ append-nil (fitting cs)
 
-pub told_in_turn : {Q : Type 0} (cs : List (Call Q)) (c : Call Q) → fits (open_after cs) c ≡ true → told_after cs c ≡ refusal_after (fitting cs) c
-told_in_turn cs c fit = cond-true _ _ _ fit
-
 pub told_out_of_turn : {Q : Type 0} (cs : List (Call Q)) (c : Call Q) → fits (open_after cs) c ≡ false → told_after cs c ≡ Some (refused_by 20)
 told_out_of_turn cs c unfit = cond-false _ _ _ unfit
-
--- what tells of a refusal is an error
-pub told_err : {T : Type 0} (r : Result T SheetFault) → is_some (told r) ≡ true → is_err r ≡ true
-told_err (Ok x) e = e
-told_err (Err f) e = refl

@@ -52,22 +52,6 @@ module _ (n h : ℕ) (s s' : OpenSheet) (room : h < 256) (at : InFirst n h s) wh
         ap (λ (m : Model). m.h) after ∙ ap (λ (k : ℕ). k + 1) at.3,
       )
 
-  -- what marking the next place gets
-  pub marking_told : {T : Type 0} (r : Result T SheetFault)
-      → ((cs : History) → Reached cs s → told r ≡ refusal_after cs (marking n 1))
-      → ((cs : History) → Reached cs s → Reached (cs ++ marking n 1 ∷ []) s')
-      → MatchResult r (λ _. InFirst (n + 1) (h + 1) s') (λ f. (f ≡ NoSuchPlace) × (1023 < n))
-  marking_told (Ok x) answers step =
-      ⊎_elim
-      (λ (far : 1023 < n). absurd (true≢false (sym (ap is_some (refused_place (model at.0) n 1 far)) ∙ ap is_some (sym (answers at.0 at.1)))))
-      (λ (near : n ≤ 1023). marked near step)
-      (cases_lt 1023 n)
-  marking_told (Err f) answers step =
-      ⊎_elim
-      (λ (far : 1023 < n). (no_such_place f (ap refusal_number (answers at.0 at.1 ∙ refused_place (model at.0) n 1 far)), far))
-      (λ (near : n ≤ 1023). absurd (true≢false (ap is_some (answers at.0 at.1) ∙ ap is_some (taken near))))
-      (cases_lt 1023 n)
-
 -- setting and reopening a sheet leaves its marks, and nothing to undo
 pub reopened : (n h : ℕ) (s : OpenSheet) (t : SetSheet) (s' : OpenSheet) → InFirst n h s
     → ((cs : History) → Reached cs s → ReachedSet (cs ++ setting ∷ []) t)
