@@ -20,6 +20,7 @@ const POOL: [u32; 5] = [
     0x8000_0000,
 ];
 
+// One ask, of one sheet about one batch: passed on as the ask takes it.
 fn one<B: Batch, G: Grid>(
     rt: &impl Print,
     name: &str,

@@ -9,7 +9,7 @@ use limb_batch::LimbRecord;
 use whole_ask::ask_whole;
 
 // Opens the batch, and makes the ask of all its terms once and `repeats` times more, into the same limbs. Returns the depth of
-// the answer, or the opposite of the number of a refusal: C takes one number.
+// the answer, or the opposite of the number of a refusal: C hands in numbers, each by itself, and takes one.
 #[unsafe(no_mangle)]
 pub extern "C" fn bench_asks(
     terms: &[LimbRecord],
