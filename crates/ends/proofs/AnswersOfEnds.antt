@@ -47,8 +47,7 @@ in_limbs u m x s M a p v e d h i r =
 
 -- no step of the grid is 0
 zeros : (s : Bool) (v : ℤ) → dyadic (signed s 0) v ≈ᴰ dyadic (pos 0) (pos 0)
-zeros false v = zero_scale (gap v (pos 0)) ∙ sym (zero_scale (gap (pos 0) v))
-zeros true v = zero_scale (gap v (pos 0)) ∙ sym (zero_scale (gap (pos 0) v))
+zeros s v = grind (arith, ints)
 
 to_zero : (u : ℤ → ℤ) (m : Mode) (x : Dyadic) (s : Bool) (a : ℕ) (v d : ℤ) → RoundsTo u m x s 0 v d → RoundsAs u m x s None a d
 to_zero u m x s a v d r = record {
@@ -72,10 +71,7 @@ power_placed u e p a h q i =
 
 of_extent : (u : ℤ → ℤ) (m : Mode) (s part : Bool) (n : ℕ) (w : ℤ) (x : Extent) (e : ℤ) (p a : ℕ) (t d : Direction) → x.exponent ≡ e → x.precision ≡ p → d ≡ t
     → Answered u m s part n w (Some (record { exponent = e; precision = p })) (direction_sign t) a → Answered u m s part n w (Some x) (direction_sign d) a
-of_extent u m s part n w x e p a t d ee pp dd A =
-    let of : ℤ → ℕ → Extent = λ y q. record { exponent = y; precision = q } in
-    let is : of e p ≡ x = ap (λ (y : ℤ). of y p) (sym ee) ∙ ap (of x.exponent) (sym pp) in
-    rw dd (subst (λ (y : Extent). Answered u m s part n w (Some y) (direction_sign t) a) is A)
+of_extent u m s part n w x e p a t d ee pp dd A = grind (arith, ints)
 
 -- ---- an end of exponent e, where the spacing is v
 module _ (u : ℤ → ℤ) (S : LawsEverywhere u) (m : Mode) (s part : Bool) (n : ℕ) (w e v : ℤ) (raise inexact : Bool)
@@ -85,11 +81,7 @@ module _ (u : ℤ → ℤ) (S : LawsEverywhere u) (m : Mode) (s part : Bool) (n 
 
   -- a part is left over only where the spacing is above the unit
   none_left_over : v ≤ℤ w → part ≡ false
-  none_left_over h = by_part part det
-    where
-      by_part : (b : Bool) → (b ≡ true → w <ℤ v) → b ≡ false
-      by_part false f = refl
-      by_part true f = absurd (let l = f refl in omega (arith, ints))
+  none_left_over h = grind (arith, ints)
 
   coarse_rounds : (i : ℕ) → v ≡ w +ℤ pos (suc i) → (x : Dyadic) → StandsFor s part n w x → RoundsTo u m x s (n / 2 ^ suc i + bit raise) v (direction_sign (toward s raise inexact))
   coarse_rounds i h x g =
@@ -202,10 +194,7 @@ module _ (u : ℤ → ℤ) (S : LawsEverywhere u) (m : Mode) (s part : Bool) (n 
 -- ---- what the laws say at one exponent
 pub laws_there : (u : ℤ → ℤ) (W len : ℕ) → Lawful u W → (e v x : ℤ) → InRange e → InRange (e +ℤ pos 1) → v ≡ u e → x ≡ u (e +ℤ pos 1) → W ≤ 32 * len
     → (v <ℤ e → x ≤ℤ e) × (e ≤ℤ (v +ℤ pos (32 * len))) × ((e +ℤ pos 1) ≤ℤ (x +ℤ pos (32 * len)))
-laws_there u W len L e v x r0 r1 vv xx h =
-    let a = L.narrow e r0 in
-    let b = L.narrow (e +ℤ pos 1) r1 in
-    (λ l. subst (λ (y : ℤ). y ≤ℤ e) (sym xx) (L.inside e r0 (subst (λ (y : ℤ). y <ℤ e) vv l)), omega (arith, ints), omega (arith, ints))
+laws_there u W len L e v x r0 r1 vv xx h = grind (arith, ints, L.narrow e r0, L.narrow (e +ℤ pos 1) r1)
 
 -- ---- the limbs past those that the precision takes are 0
 pub unused_limbs : (u : ℤ → ℤ) (m : Mode) (s part : Bool) (n : ℕ) (w : ℤ) (extent : Option Extent) (d : ℤ) (xs : List ℕ) → SmallLimbs xs

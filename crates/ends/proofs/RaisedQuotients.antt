@@ -1,5 +1,6 @@
 -- The bits kept of a number, the bit below them and whether anything else is below decide what the kept bits round to.
 use Rattle.std.proofs.Common.{◌≡◌, ℕ, zero, suc, ◌+◌, ◌*◌, ◌/◌, ◌%◌, ◌^◌, ◌<◌, Bool, true, false, cond, eqb, ltb, ap, ◌∙◌, mod-lt, mul_comm, pow-suc, arith, pow_pos, pow-add}
+use borrow.Author.Differences.{ints}
 use Prim.Native.Nat.{compare}
 use native.Mathlib.Nat.{div-eq_of_lt-le}
 use lib.Ieee.{nearest}
@@ -12,8 +13,7 @@ use Rattle.ends.specs.Ends.{raised}
 
 -- of Q * 2E + b * E + R with R below E
 nearest_by_parts : (Q R E : ℕ) (b : Bool) → R < E → nearest Q (compare ((bit b * E + R) * 2) (2 * E)) ≡ Q + bit (raised near (eqb (Q % 2) 1) b (ltb 0 R))
-nearest_by_parts Q R E true h = grind arith
-nearest_by_parts Q R E false h = grind arith
+nearest_by_parts Q R E b h = grind (arith, ints)
 
 whole_by_parts : (w : Way) (Q R E : ℕ) (b : Bool) → R < E → whole w (Q * (2 * E) + (bit b * E + R)) (2 * E) ≡ Q + bit (raised w (eqb (Q % 2) 1) b (ltb 0 R))
 whole_by_parts near Q R E b h =
