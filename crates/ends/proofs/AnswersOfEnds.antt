@@ -11,7 +11,6 @@ use Rattle.exact.specs.Limbs.{limbs_value}
 use Rattle.exact.proofs.BitLength.{size_top}
 use Rattle.exact.specs.Dyadic.{◌≈ᴰ◌}
 use Rattle.exact.proofs.Order.{≈ᴰ_trans}
-use Rattle.exact.proofs.Scaling.{zero_scale}
 use Rattle.exact.proofs.BitLength.{pos_of_size}
 use Rattle.exact.proofs.Shifts.{shift_down, shift_up, first_bits_full, half_power}
 use Rattle.exact.proofs.LimbBits.{SmallLimbs, limb_past_value}
@@ -151,14 +150,7 @@ module _ (u : ℤ → ℤ) (S : LawsEverywhere u) (m : Mode) (s part : Bool) (n 
   -- ---- no bit is kept
   module _ (low : e ≤ℤ v) where
     unit_below : w <ℤ v
-    unit_below = by_part part nz det
-      where
-        by_part : (b : Bool) → (b ≡ false → 0 < n) → (b ≡ true → w <ℤ v) → w <ℤ v
-        by_part true f h = h refl
-        by_part false f h = from_top (size_top n (f refl))
-          where
-            from_top : ((e : ℕ) × (size n ≡ suc e) × (2 ^ e ≤ n) × (n < 2 ^ suc e)) → w <ℤ v
-            from_top (k, s, lo, hi) = omega (arith, ints)
+    unit_below = grind (arith, ints, size_top n)
 
     none_kept_rounds : (x : Dyadic) → StandsFor s part n w x → RoundsTo u m x s (bit raise) v (direction_sign (toward s raise inexact))
     none_kept_rounds x g =
@@ -185,11 +177,7 @@ module _ (u : ℤ → ℤ) (S : LawsEverywhere u) (m : Mode) (s part : Bool) (n 
     }
 
     pub none_kept_right : (x : Option Extent) (a : ℕ) (d : Direction) → d ≡ toward s raise inexact → NoneKept v raise x a → Answered u m s part n w x (direction_sign d) a
-    none_kept_right x a d dd h = by_raise raise refl h
-      where
-        by_raise : (b : Bool) → raise ≡ b → NoneKept v b x a → Answered u m s part n w x (direction_sign d) a
-        by_raise true e1 (h1, h2) = rw (h1, dd) (one_answer a e1 h2)
-        by_raise false e1 (h1, h2) = rw (h1, dd) (zero_answer a e1 h2)
+    none_kept_right x a d dd h = grind (arith, one_answer a, zero_answer a)
 
 -- ---- what the laws say at one exponent
 pub laws_there : (u : ℤ → ℤ) (W len : ℕ) → Lawful u W → (e v x : ℤ) → InRange e → InRange (e +ℤ pos 1) → v ≡ u e → x ≡ u (e +ℤ pos 1) → W ≤ 32 * len

@@ -1,17 +1,16 @@
 -- All the numbers that an end stands for round alike, to what the decision says.
-use Rattle.std.proofs.Common.{◌≡◌, ℕ, zero, suc, ◌+◌, ◌-◌, ◌*◌, ◌/◌, ◌%◌, ◌^◌, ◌<◌, Bool, true, false, cond, ltb, ℤ, pos, ◌+ℤ◌, ◌-ℤ◌, neg_ℤ, nat_abs, ◌≤ℤ◌, ◌<ℤ◌, sym, refl, ap, ◌∙◌, subst, inl, inr, add-mul, eq-zero-or-pos, mul-pos, arith, pow_pos}
+use Rattle.std.proofs.Common.{◌≡◌, ℕ, suc, ◌+◌, ◌-◌, ◌*◌, ◌/◌, ◌%◌, ◌^◌, ◌<◌, Bool, true, false, cond, ltb, ℤ, pos, ◌+ℤ◌, ◌-ℤ◌, neg_ℤ, nat_abs, ◌≤ℤ◌, ◌<ℤ◌, sym, refl, ap, ◌∙◌, subst, inl, inr, add-mul, eq-zero-or-pos, mul-pos, arith, pow_pos}
 use lib.Ieee.{size}
 use lib.Ieee.Digits.{size-le}
 use borrow.Author.Differences.{ints}
-use Rattle.std.proofs.lemmas.Bool.{lt-ltb, ltb-true, true≢false, false≢true}
+use Rattle.std.proofs.lemmas.Bool.{lt-ltb, ltb-true}
 use Rattle.exact.specs.Integers.{sign, is_negative, signed, gap, lesser, scale}
 use Rattle.exact.specs.Dyadic.{Dyadic, dyadic, at, ◌≈ᴰ◌}
-use Rattle.exact.proofs.Integers.{sign_above, sign_below}
 use Rattle.exact.proofs.Scaling.{scale_neg, scale_signed, gap_split}
 use Rattle.exact.proofs.Order.{at_same, same_at, at_lt}
 use Rattle.exact.proofs.Parts.{size_parts}
 use Rattle.exact.proofs.Signed.{negative_signed}
-use Rattle.grid.specs.Rounding.{Mode, Way, near, cut, away, whole, multiple, way_of, rounded}
+use Rattle.grid.specs.Rounding.{Mode, Way, whole, multiple, way_of, rounded}
 use Rattle.grid.proofs.Everywhere.{LawsEverywhere}
 use Rattle.grid.proofs.Magnitudes.{to}
 use Rattle.grid.proofs.Integers.{round}
