@@ -1,11 +1,12 @@
 -- What a partial sum holds after each step of absorbing a column, and that it keeps its limits.
-use Rattle.std.proofs.Common.{◌≡◌, ℕ, ◌+◌, ◌-◌, ◌*◌, ◌^◌, ◌<◌, ◌≤◌, ◌≢◌, List, length, get_or, drop, set, replicate, ℤ, pos, ◌+ℤ◌, nat_abs, ◌-ℤ◌, ◌≤ℤ◌, ◌<ℤ◌, sym, refl, ap, ◌∙◌, subst, ⊎_elim, arith, length-set, get_or-set_other, get_or-set_same}
+use Rattle.std.proofs.Common.{◌≡◌, ℕ, ◌+◌, ◌-◌, ◌*◌, ◌^◌, ◌<◌, ◌≤◌, ◌≢◌, List, length, get_or, drop, set, replicate, ℤ, pos, ◌+ℤ◌, nat_abs, ◌-ℤ◌, ◌≤ℤ◌, ◌<ℤ◌, sym, refl, ap, ◌∙◌, subst, ⊎_elim, arith, length-set}
+use Rattle.std.proofs.lemmas.Grind.{common_steps}
 use borrow.Author.Differences.{ints}
 use Rattle.std.proofs.lemmas.List.{drop_more, drop_all, get_or-replicate}
 use Rattle.std.proofs.lemmas.Int.{by_lt_z}
 use Rattle.std.proofs.lemmas.Bool.{cases_lt, cases_eq}
 use Rattle.exact.specs.Integers.{scale}
-use Rattle.exact.proofs.Scaling.{scale_none, scale_scale, scale_plus, zero_scale}
+use Rattle.exact.proofs.Scaling.{scale_scale, scale_plus, zero_scale}
 use Rattle.totals.specs.Totals.{totals_value}
 use Rattle.partial_sum.specs.Limits.{Fields, drop_between, slot_of, head_of, window_of, held_of, most_total, TotalsWithin, Shaped, Sound}
 use Rattle.partial_sum.specs.Holding.{fields, slot, head, window, held, Absorbs, Folds, Appends, Lowers}
@@ -46,10 +47,10 @@ extended p k d l =
 -- ---- slots
 -- a slot of a written window
 slot_written : (q : Fields) (ts : List ℤ) (i : ℕ) (v : ℤ) → q.totals ≡ set ts i v → i < length ts → slot_of q i ≡ v
-slot_written q ts i v e inside = ap (λ (l : List ℤ). get_or l i (pos 0)) e ∙ get_or-set_same ts i v (pos 0) inside
+slot_written q ts i v e inside = grind (arith, ints, common_steps)
 
 slot_kept : (q : Fields) (ts : List ℤ) (i k : ℕ) (v : ℤ) → q.totals ≡ set ts i v → k ≢ i → slot_of q k ≡ get_or ts k (pos 0)
-slot_kept q ts i k v e other = ap (λ (l : List ℤ). get_or l k (pos 0)) e ∙ get_or-set_other ts i k v (pos 0) other
+slot_kept q ts i k v e other = grind (arith, ints, common_steps)
 
 -- ---- a window of the head alone
 pub head_alone : (ts : List ℤ) → length ts ≡ 130 → totals_value (drop 129 ts) ≡ get_or ts 129 (pos 0)
@@ -60,20 +61,14 @@ head_alone ts long =
 
 -- an open partial sum is its window
 pub held_open : (p : Fields) → p.lowest ≡ p.column → p.rest ≡ pos 0 → held_of p ≡ window_of p
-held_open p at none =
-    let e : drop_between p.lowest p.column ≡ 0 = omega (arith, ints) in
-    let w : scale (window_of p) (drop_between p.lowest p.column) ≡ window_of p = ap (scale (window_of p)) e ∙ scale_none (window_of p) in
-    omega (arith, ints)
+held_open p at none = grind (arith, ints)
 
 held_alone : (p : Fields) → length p.totals ≡ 130 → p.lowest ≡ p.column → p.rest ≡ pos 0 → p.from ≡ 129 → held_of p ≡ head_of p
 held_alone p whole at none alone = held_open p at none ∙ ap (λ (i : ℕ). totals_value (drop i p.totals)) alone ∙ head_alone p.totals whole
 
 -- where some slot is free the partial sum is open
 open_where_room : (p : PartialSum) → 0 < p.from → p.column ≡ p.lowest
-open_where_room p room =
-    let s : Shaped (fields p) = p.sound.shaped in
-    let o = s.order in
-    by_lt_z p.column p.lowest (λ l. absurd (let z = s.closed_full l in let n : ⊥ = omega arith in n)) (λ l. omega (arith, ints))
+open_where_room p room = grind (arith, ints)
 
 -- ---- one column
 pub started : (p : Fields) (t : ℤ) → nat_abs t ≤ most_total → p.totals ≡ set (replicate 130 (pos 0)) 129 t → p.from ≡ 129 → p.lowest ≡ p.column → p.rest ≡ pos 0 → (held_of p ≡ t) × Sound p
@@ -155,7 +150,7 @@ extended_window p q d x =
 
 -- the head stays what it was, and it was not 0
 head_stays : (p : PartialSum) (d : ℤ) → Appends p d → 0 < nat_abs (head p)
-head_stays p d a = ⊎_elim p.sound.shaped.head_some (λ l. a.some (omega (arith, p.used))) (cases_lt p.from 129)
+head_stays p d a = grind (arith, ints)
 
 -- where the window_of reaches d
 appended : (p : PartialSum) (q r : Fields) (t d : ℤ) → Absorbs p t d → Appends p d → Extended p q d → q.lowest ≡ d → r.totals ≡ set q.totals q.from t → r.from ≡ q.from → r.lowest ≡ q.lowest → r.column ≡ d → r.rest ≡ q.rest

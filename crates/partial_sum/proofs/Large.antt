@@ -1,5 +1,5 @@
 -- A full window is so large that what it is decides how every number next to it rounds.
-use Rattle.std.proofs.Common.{◌≡◌, ℕ, zero, suc, ◌+◌, ◌*◌, ◌^◌, ◌<◌, ◌≤◌, Bool, true, false, List, [], ◌∷◌, length, get_or, take, drop, ℤ, pos, ◌+ℤ◌, nat_abs, sym, refl, ap, ◌∙◌, subst, ⊎_elim, lt_of_lt_of_le, mul-le-mul_right, lt_of_not-le, not-le_of_lt, arith, pow_mono, pow-add}
+use Rattle.std.proofs.Common.{◌≡◌, ℕ, zero, suc, ◌+◌, ◌*◌, ◌^◌, ◌<◌, ◌≤◌, Bool, true, List, [], ◌∷◌, length, get_or, take, drop, ℤ, pos, ◌+ℤ◌, nat_abs, sym, refl, ap, ◌∙◌, subst, ⊎_elim, lt_of_lt_of_le, mul-le-mul_right, lt_of_not-le, not-le_of_lt, arith, pow_mono, pow-add}
 use lib.Ieee.{size}
 use lib.Ieee.Digits.{size-lt}
 use borrow.Author.Differences.{ints}
@@ -34,11 +34,7 @@ value_parts (suc i) (t ∷ ts) h =
 
 -- what is less than 2 ^ 12 units of 2 ^ k, beside 2 ^ 32 such units or more
 far_from_none : (k : ℕ) (low high : ℤ) → 50 ≤ k → 4294967295 * nat_abs low + 2 ^ 43 ≤ 2 ^ 43 * 2 ^ k → 2 ^ 32 ≤ nat_abs high → 2 ^ 31 * 2 ^ k + 2 ^ 50 ≤ nat_abs (low +ℤ scale high k)
-far_from_none k low high deep small large =
-    let big : 2 ^ 50 ≤ 2 ^ k = pow_mono deep in
-    let scaled = scale_abs high k in
-    let up = mul-le-mul_right (2 ^ k) large in
-    omega (arith, ints)
+far_from_none k low high deep small large = omega (arith, ints, pow_mono deep, scale_abs high k, mul-le-mul_right (2 ^ k) large)
 
 -- the two highest totals of a window that is longer
 pub top_large : (p : PartialSum) → p.from < 129 → 2 ^ 32 ≤ nat_abs (totals_value (drop 128 p.totals))
@@ -71,8 +67,7 @@ long_enough n k h =
     omega arith
 
 meant_large : (s : Bool) (n k : ℕ) (a v : ℤ) → nat_abs a ≤ 2 ^ 44 → 2 ^ 31 * 2 ^ k + 2 ^ 50 ≤ nat_abs v → Meant s true n (v +ℤ a) → 2 ^ 31 * 2 ^ k ≤ n
-meant_large false n k a v few large e = omega (arith, ints)
-meant_large true n k a v few large e = omega (arith, ints)
+meant_large s n k a v h g k1 = grind (arith, ints)
 
 pub magnitude_long : (p : PartialSum) (s : Bool) (n : ℕ) (a : ℤ) → p.from ≡ 0 → nat_abs a ≤ 2 ^ 44 → Meant s true n (window p +ℤ a) → 4128 ≤ size n
 magnitude_long p s n a full few meant = at 4096 refl

@@ -1,8 +1,9 @@
 -- The window with its lowest total changed, as it is settled.
-use Rattle.std.proofs.Common.{◌≡◌, ℕ, suc, ◌+◌, ◌-◌, ◌*◌, ◌^◌, ◌<◌, ◌≤◌, ◌≢◌, List, [], ◌∷◌, ◌++◌, length, get_or, take, drop, set, ℤ, pos, ◌+ℤ◌, nat_abs, sym, ap, ◌∙◌, subst, ⊎_elim, arith, length-set, get_or-set_other, get_or-set_same}
+use Rattle.std.proofs.Common.{◌≡◌, ℕ, suc, ◌+◌, ◌-◌, ◌*◌, ◌^◌, ◌<◌, ◌≤◌, ◌≢◌, List, [], ◌∷◌, ◌++◌, length, get_or, take, drop, set, ℤ, pos, ◌+ℤ◌, nat_abs, sym, ap, ◌∙◌, subst, ⊎_elim, arith, get_or-set_other, get_or-set_same}
+use Rattle.std.proofs.lemmas.Grind.{common_steps}
 use borrow.Author.Differences.{ints}
-use Rattle.std.proofs.lemmas.List.{take_rest, get_or-drop, length-drop, length-append, set_split, take_at, drop_all}
-use Rattle.std.proofs.lemmas.Bool.{cases_lt, cases_eq}
+use Rattle.std.proofs.lemmas.List.{get_or-drop, length-append, set_split, take_at, drop_all}
+use Rattle.std.proofs.lemmas.Bool.{cases_eq}
 use Rattle.exact.specs.Limbs.{limbs_value}
 use Rattle.exact.proofs.LimbSteps.{value_push}
 use Rattle.totals.specs.Totals.{totals_value, SmallTotals}
@@ -12,18 +13,16 @@ use Rattle.partial_sum.proofs.Windows.{value_changed}
 
 -- the slice of the totals from a slot on
 pub from_slot : (p : PartialSum) (v : ℤ) → take (130 - p.from) (drop p.from (set p.totals p.from v)) ≡ drop p.from (set p.totals p.from v)
-from_slot p v =
-    let long : length (set p.totals p.from v) ≡ 130 = length-set p.totals p.from v ∙ p.whole in
-    subst (λ (n : ℕ). take (n - p.from) (drop p.from (set p.totals p.from v)) ≡ drop p.from (set p.totals p.from v)) long (take_rest (set p.totals p.from v) p.from)
+from_slot p v = grind (arith, ints, common_steps)
 
 pub slice_length : (p : PartialSum) (v : ℤ) → length (take (130 - p.from) (drop p.from (set p.totals p.from v))) ≡ 130 - p.from
-slice_length p v = ap length (from_slot p v) ∙ length-drop p.from (set p.totals p.from v) ∙ ap (λ (n : ℕ). n - p.from) (length-set p.totals p.from v ∙ p.whole)
+slice_length p v = grind (arith, ints, common_steps)
 
 pub slice_value : (p : PartialSum) (a v : ℤ) → v ≡ slot p p.from +ℤ a → totals_value (take (130 - p.from) (drop p.from (set p.totals p.from v))) ≡ window p +ℤ a
 slice_value p a v e = ap totals_value (from_slot p v) ∙ value_changed p.totals p.from a v (omega (arith, p.whole, p.used)) e
 
 pub slot_small : (p : PartialSum) → (k : ℕ) → k < 130 → nat_abs (slot p k) ≤ 2 ^ 52 + 2 ^ 42
-slot_small p k l = ⊎_elim (λ (i : k < 129). (let h = p.sound.all_totals k i in omega arith)) (λ (i : 129 ≤ k). subst (λ (j : ℕ). nat_abs (slot p j) ≤ 2 ^ 52 + 2 ^ 42) (let e : 129 ≡ k = omega arith in e) p.sound.shaped.head_small) (cases_lt k 129)
+slot_small p k l = grind (arith, ints)
 
 pub slice_small : (p : PartialSum) (a v : ℤ) → nat_abs a ≤ 2 ^ 45 → v ≡ slot p p.from +ℤ a → SmallTotals (take (130 - p.from) (drop p.from (set p.totals p.from v)))
 slice_small p a v few e k l =
