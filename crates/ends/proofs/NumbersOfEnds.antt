@@ -40,13 +40,11 @@ in_between : (s : Bool) (n : ℕ) (w z : ℤ) (x : Dyadic) → z ≤ℤ w → z 
 in_between false n w z x a b (h, g) =
     let lo = at_lt z (dyadic (pos n) w) x a b h in
     let hi = at_lt z x (dyadic (pos (n + 1)) w) b a g in
-    let P = add-mul n 1 (2 ^ gap w z) in
-    (omega (arith, ints), omega (arith, ints), omega (arith, ints))
+    omega (arith, ints, add-mul n 1 (2 ^ gap w z))
 in_between true n w z x a b (h, g) =
     let lo = rw (scale_neg (pos (n + 1)) (gap w z)) at (at_lt z (dyadic (neg_ℤ (pos (n + 1))) w) x a b h) in
     let hi = rw (scale_neg (pos n) (gap w z)) at (at_lt z x (dyadic (neg_ℤ (pos n)) w) b a g) in
-    let P = add-mul n 1 (2 ^ gap w z) in
-    (omega (arith, ints), omega (arith, ints), omega (arith, ints))
+    omega (arith, ints, add-mul n 1 (2 ^ gap w z))
 
 pub in_small_units : (s p : Bool) (n : ℕ) (w : ℤ) (x : Dyadic) → StandsFor s p n w x → InSmallUnits s p n w x
 in_small_units s false n w x e =

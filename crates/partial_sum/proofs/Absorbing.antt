@@ -70,30 +70,33 @@ held_alone p whole at none alone = held_open p at none ∙ ap (λ (i : ℕ). tot
 open_where_room : (p : PartialSum) → 0 < p.from → p.column ≡ p.lowest
 open_where_room p room = grind (arith, ints)
 
+-- a head alone, small enough, keeps the limits
+alone_sound : (p : Fields) → p.lowest ≡ p.column → p.rest ≡ pos 0 → p.from ≡ 129 → ((k : ℕ) → k < 129 → slot_of p k ≡ pos 0) → nat_abs (head_of p) ≤ 2 ^ 52 + 2 ^ 42 → Sound p
+alone_sound p at none alone zeros small =
+    let within : (b : ℕ) → TotalsWithin b p = λ b k l. (let z = zeros k l in omega (arith, ints)) in
+    record {
+      shaped = record {
+        order = omega (arith, ints);
+        open_rest = λ _. none;
+        closed_full = λ l. absurd (omega (arith, ints));
+        unused = λ k l. zeros k (omega arith);
+        head_small = small;
+        head_some = λ l. absurd (omega arith);
+        head_large = λ l. absurd (omega arith);
+        rest_small = omega (arith, ints);
+      };
+      open_totals = λ _. within most_total;
+      all_totals = within (2 ^ 42 + 2 ^ 11);
+      near_rest = λ l. absurd (omega (arith, ints));
+    }
+
 -- ---- one column
 pub started : (p : Fields) (t : ℤ) → nat_abs t ≤ most_total → p.totals ≡ set (replicate 130 (pos 0)) 129 t → p.from ≡ 129 → p.lowest ≡ p.column → p.rest ≡ pos 0 → (held_of p ≡ t) × Sound p
 started p t small e alone at none =
     let long : length p.totals ≡ 130 = ap length e ∙ length-set (replicate 130 (pos 0)) 129 t in
     let last : slot_of p 129 ≡ t = slot_written p (replicate 130 (pos 0)) 129 t e (omega arith) in
     let zeros : (k : ℕ) → k < 129 → slot_of p k ≡ pos 0 = λ k l. slot_kept p (replicate 130 (pos 0)) 129 k t e (omega arith) ∙ get_or-replicate 130 k (pos 0) (pos 0) (omega arith) in
-    let within : (b : ℕ) → TotalsWithin b p = λ b k l. (let z = zeros k l in omega (arith, ints)) in (
-      held_alone p long at none alone ∙ last,
-      record {
-        shaped = record {
-          order = omega (arith, ints);
-          open_rest = λ _. none;
-          closed_full = λ l. absurd (omega (arith, ints));
-          unused = λ k l. zeros k (omega arith);
-          head_small = omega (arith, ints);
-          head_some = λ l. absurd (omega arith);
-          head_large = λ l. absurd (omega arith);
-          rest_small = omega (arith, ints);
-        };
-        open_totals = λ _. within most_total;
-        all_totals = within (2 ^ 42 + 2 ^ 11);
-        near_rest = λ l. absurd (omega (arith, ints));
-      },
-    )
+    (held_alone p long at none alone ∙ last, alone_sound p at none alone zeros (omega (arith, ints)))
 
 -- ---- a column into the head
 pub folded : (p : PartialSum) (q : Fields) (t d : ℤ) → Absorbs p t d → Folds p d → q.totals ≡ set p.totals 129 (scale (head p) 32 +ℤ t) → q.from ≡ p.from → q.lowest ≡ d → q.column ≡ d → q.rest ≡ p.rest
@@ -117,23 +120,9 @@ folded p q t d a f e from lowest column rest =
     (λ (nothing : head p ≡ pos 0). ap (λ (z : ℤ). scale z (drop_between p.column d)) nothing ∙ zero_scale (drop_between p.column d) ∙ sym (zero_scale 32) ∙ ap (λ (z : ℤ). scale z 32) (sym nothing))
     f.next in
     let zeros : (k : ℕ) → k < 129 → slot_of q k ≡ pos 0 = λ k l. slot_kept q p.totals 129 k v e (omega arith) ∙ s.unused k (omega arith) in
-    let within : (b : ℕ) → TotalsWithin b q = λ b k l. (let z = zeros k l in omega (arith, ints)) in (
+    (
       record { value = after ∙ ap (λ (z : ℤ). z +ℤ t) (sym moved); at = column; no_higher = omega (arith, ints) },
-      record {
-        shaped = record {
-          order = omega (arith, ints);
-          open_rest = λ _. rest ∙ none;
-          closed_full = λ l. absurd (omega (arith, ints));
-          unused = λ k l. zeros k (omega arith);
-          head_small = omega (arith, ints);
-          head_some = λ l. absurd (omega arith);
-          head_large = λ l. absurd (omega arith);
-          rest_small = omega (arith, ints);
-        };
-        open_totals = λ _. within most_total;
-        all_totals = within (2 ^ 42 + 2 ^ 11);
-        near_rest = λ l. absurd (omega (arith, ints));
-      },
+      alone_sound q (lowest ∙ sym column) (rest ∙ none) (from ∙ alone) zeros (omega (arith, ints)),
     )
 
 -- ---- a column below the head
