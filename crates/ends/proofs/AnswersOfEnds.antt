@@ -1,5 +1,5 @@
 -- What is written for an end is what the numbers that it stands for round to.
-use Rattle.std.proofs.Common.{◌≡◌, ℕ, suc, ◌+◌, ◌-◌, ◌*◌, ◌/◌, ◌^◌, ◌<◌, ◌≤◌, Bool, true, false, List, get_or, ℤ, pos, ◌+ℤ◌, ◌-ℤ◌, ◌≤ℤ◌, ◌<ℤ◌, Some, None, Option, sym, refl, ap, ◌∙◌, subst, inl, inr, lt_of_lt_of_le, pow-suc, arith, pow_pos, pow_mono, pow-add}
+use Rattle.std.proofs.Common.{◌≡◌, ℕ, suc, ◌+◌, ◌-◌, ◌*◌, ◌/◌, ◌^◌, ◌<◌, ◌≤◌, Bool, true, false, List, get_or, ℤ, pos, ◌+ℤ◌, ◌-ℤ◌, ◌≤ℤ◌, ◌<ℤ◌, Some, None, Option, sym, refl, ap, ◌∙◌, subst, lt_of_lt_of_le, pow-suc, arith, pow_pos, pow_mono, pow-add}
 use native.Mathlib.Nat.{div-eq_of_lt}
 use lib.Ieee.{size}
 use lib.Ieee.Digits.{size-lt}
@@ -67,10 +67,6 @@ power_placed u e p a h q i =
           i ∙ half_power (32 * limbs_for p) (omega arith) ∙ ap (λ (y : ℕ). 2 ^ y) (let q : 32 * limbs_for p - 1 ≡ p - 1 + unused p = omega arith in q) ∙ pow-add 2 (p - 1) (unused p);
       precise = q;
     }
-
-of_extent : (u : ℤ → ℤ) (m : Mode) (s part : Bool) (n : ℕ) (w : ℤ) (x : Extent) (e : ℤ) (p a : ℕ) (t d : Direction) → x.exponent ≡ e → x.precision ≡ p → d ≡ t
-    → Answered u m s part n w (Some (record { exponent = e; precision = p })) (direction_sign t) a → Answered u m s part n w (Some x) (direction_sign d) a
-of_extent u m s part n w x e p a t d ee pp dd A = grind (arith, ints)
 
 -- ---- an end of exponent e, where the spacing is v
 module _ (u : ℤ → ℤ) (S : LawsEverywhere u) (m : Mode) (s part : Bool) (n : ℕ) (w e v : ℤ) (raise inexact : Bool)
@@ -144,8 +140,7 @@ module _ (u : ℤ → ℤ) (S : LawsEverywhere u) (m : Mode) (s part : Bool) (n 
         }
 
     pub some_kept_right : (x : Extent) (a : ℕ) (d : Direction) → d ≡ toward s raise inexact → SomeKept (n * 2 ^ p / 2 ^ size n + bit raise) e p q x a → Answered u m s part n w (Some x) (direction_sign d) a
-    some_kept_right x a d dd (inl (h1, h2, h3, h4)) = of_extent u m s part n w x e p a (toward s raise inexact) d h1 h2 dd (kept_answer a h3 h4)
-    some_kept_right x a d dd (inr (h1, h2, h3, h4)) = of_extent u m s part n w x (e +ℤ pos 1) q a (toward s raise inexact) d h1 h2 dd (carried_answer a h3 h4)
+    some_kept_right x a d dd h = grind (arith, kept_answer a, carried_answer a)
 
   -- ---- no bit is kept
   module _ (low : e ≤ℤ v) where

@@ -10,12 +10,6 @@ use Rattle.ends.specs.Ends.{StandsFor, Bordered}
 use Rattle.partial_sum.specs.Lying.{Lies}
 use Rattle.partial_sum.specs.Ends.{Meant}
 
-pub meant_plus : (partial : Bool) (v : ℤ) → is_negative v ≡ false → Meant false partial (nat_abs v) v
-meant_plus partial v h = grind (arith, ints)
-
-pub meant_minus : (v : ℤ) → is_negative v ≡ true → Meant true false (nat_abs v) v
-meant_minus v h = grind (arith, ints)
-
 pub meant_part : (v : ℤ) → is_negative v ≡ true → Meant true true (nat_abs (v +ℤ pos 1)) v
 meant_part v h = grind (arith, ints)
 

@@ -1,5 +1,5 @@
 -- Where the ends of a full window differ, the rest below it is small.
-use Rattle.std.proofs.Common.{◌≡◌, ℕ, ◌+◌, ◌^◌, ◌<◌, ◌≤◌, Bool, true, ℤ, pos, negsuc, ◌+ℤ◌, ◌-ℤ◌, neg_ℤ, nat_abs, ◌≤ℤ◌, ◌<ℤ◌, Some, sym, refl, ◌∙◌, ⊎_elim, arith, pow_mono}
+use Rattle.std.proofs.Common.{◌≡◌, ℕ, ◌+◌, ◌^◌, ◌<◌, ◌≤◌, Bool, true, ℤ, pos, negsuc, ◌+ℤ◌, ◌-ℤ◌, neg_ℤ, nat_abs, ◌≤ℤ◌, ◌<ℤ◌, Some, refl, ⊎_elim, arith, pow_mono}
 use borrow.Author.Differences.{ints}
 use Rattle.std.proofs.lemmas.Int.{by_lt_z}
 use Rattle.std.proofs.lemmas.Bool.{cases_lt}
@@ -21,16 +21,11 @@ at_or_above k n low high = grind (arith, ints)
 abbrev end_at : ℤ → WindowEnd
 end_at v = record { offset = v; partial = true }
 
-same_end : (e f : WindowEnd) → e.partial ≡ f.partial → e.offset ≡ f.offset → e ≡ f
-same_end e f p o = grind (arith, ints)
-
 same_unit : (p : PartialSum) (e f : WindowEnd) (v : ℤ) (x y : Dyadic) → LiesAt p e x → LiesAt p f y → LiesAt p (end_at v) x → LiesAt p (end_at v) y → e ≡ f
 same_unit p e f v x y le lf lx ly =
     let a = lies_once e.partial (window p +ℤ e.offset) (window p +ℤ v) (column_weight p.lowest) x le lx in
     let b = lies_once f.partial (window p +ℤ f.offset) (window p +ℤ v) (column_weight p.lowest) y lf ly in
-    let i = a.1 in
-    let j = b.1 in
-    same_end e f (a.0 ∙ sym b.0) (omega (arith, ints))
+    grind (arith, ints)
 
 -- the rest and what can still come are less than a unit of the window's lowest column
 less_than_window : (p : PartialSum) (n : ℕ) → p.column <ℤ p.lowest → n ≤ 1024 → nat_abs p.rest + n + 1 < 2 ^ drop_between p.lowest p.column

@@ -1,9 +1,8 @@
 -- The window with its lowest total changed, as it is settled.
-use Rattle.std.proofs.Common.{◌≡◌, ℕ, suc, ◌+◌, ◌-◌, ◌*◌, ◌^◌, ◌<◌, ◌≤◌, ◌≢◌, List, [], ◌∷◌, ◌++◌, length, get_or, take, drop, set, ℤ, pos, ◌+ℤ◌, nat_abs, sym, ap, ◌∙◌, subst, ⊎_elim, arith, get_or-set_other, get_or-set_same}
+use Rattle.std.proofs.Common.{◌≡◌, ℕ, suc, ◌+◌, ◌-◌, ◌*◌, ◌^◌, ◌<◌, ◌≤◌, List, [], ◌∷◌, ◌++◌, length, take, drop, set, ℤ, ◌+ℤ◌, nat_abs, ap, ◌∙◌, arith}
 use Rattle.std.proofs.lemmas.Grind.{common_steps}
 use borrow.Author.Differences.{ints}
-use Rattle.std.proofs.lemmas.List.{get_or-drop, length-append, set_split, take_at, drop_all}
-use Rattle.std.proofs.lemmas.Bool.{cases_eq}
+use Rattle.std.proofs.lemmas.List.{length-append, set_split, take_at, drop_all}
 use Rattle.exact.specs.Limbs.{limbs_value}
 use Rattle.exact.proofs.LimbSteps.{value_push}
 use Rattle.totals.specs.Totals.{totals_value, SmallTotals}
@@ -25,19 +24,7 @@ pub slot_small : (p : PartialSum) → (k : ℕ) → k < 130 → nat_abs (slot p 
 slot_small p k l = grind (arith, ints)
 
 pub slice_small : (p : PartialSum) (a v : ℤ) → nat_abs a ≤ 2 ^ 45 → v ≡ slot p p.from +ℤ a → SmallTotals (take (130 - p.from) (drop p.from (set p.totals p.from v)))
-slice_small p a v few e k l =
-    let long = slice_length p v in
-    let inside : p.from + k < 130 = omega (arith, p.used) in
-    let at : get_or (take (130 - p.from) (drop p.from (set p.totals p.from v))) k (pos 0) ≡ get_or (set p.totals p.from v) (p.from + k) (pos 0) =
-    ap (λ (l : List ℤ). get_or l k (pos 0)) (from_slot p v) ∙ get_or-drop p.from (set p.totals p.from v) k (pos 0) in
-    subst (λ (z : ℤ). nat_abs z < 2 ^ 53) (sym at) (⊎_elim
-    (λ (same : p.from + k ≡ p.from).
-    (let w : get_or (set p.totals p.from v) (p.from + k) (pos 0) ≡ v = ap (λ (j : ℕ). get_or (set p.totals p.from v) j (pos 0)) same ∙ get_or-set_same p.totals p.from v (pos 0) (omega (arith, p.whole, p.used)) in
-    let h = slot_small p p.from p.used in omega (arith, ints)))
-    (λ (ne : p.from + k ≢ p.from).
-    (let w : get_or (set p.totals p.from v) (p.from + k) (pos 0) ≡ slot p (p.from + k) = get_or-set_other p.totals p.from (p.from + k) v (pos 0) ne in
-    let h = slot_small p (p.from + k) inside in omega (arith, ints)))
-    (cases_eq (p.from + k) p.from))
+slice_small p a v few e k l = grind (arith, ints, common_steps, slot_small p (p.from + k), from_slot p v, slice_length p v, p.used, p.whole)
 
 -- ---- the limb above
 pub top_written : (xs ys : List ℕ) (n t : ℕ) → length xs ≡ n → length ys ≡ 1 → limbs_value (set (xs ++ ys) n t) ≡ t * 2 ^ (32 * n) + limbs_value xs
