@@ -3,7 +3,7 @@ use Rattle.std.proofs.Common.{◌≡◌, ℕ, suc, ◌+◌, ◌-◌, ◌*◌, �
 use lib.Ieee.{size}
 use lib.Ieee.Digits.{size-le}
 use borrow.Author.Differences.{ints}
-use Rattle.std.proofs.lemmas.Bool.{lt-ltb, ltb-true}
+use Rattle.std.proofs.lemmas.Bool.{lt-ltb}
 use Rattle.exact.specs.Integers.{sign, is_negative, signed, gap, lesser, scale}
 use Rattle.exact.specs.Dyadic.{Dyadic, dyadic, at, ◌≈ᴰ◌}
 use Rattle.exact.proofs.Scaling.{scale_neg, scale_signed, gap_split}
@@ -146,11 +146,7 @@ module _ (u : ℤ → ℤ) (S : LawsEverywhere u) (m : Mode) (s p : Bool) (n i :
       }
     where
       positive : (r j : ℕ) → ltb 0 r ≡ p → 0 < n * 2 ^ j + r
-      positive r j e = by_part p e nz
-        where
-          by_part : (b : Bool) → ltb 0 r ≡ b → (b ≡ false → 0 < n) → 0 < n * 2 ^ j + r
-          by_part true e h = omega (arith, ltb-true 0 r e)
-          by_part false e h = omega (arith, mul-pos (h refl) (pow_pos j))
+      positive r j e = grind (arith, mul-pos, pow_pos j)
 
   pub coarse_end_rounds : suc i ≡ gap (spacing_there u n w) w → (p ≡ false → 0 < n) → StandsFor s p n w x
       → RoundsTo u m x s (n / 2 ^ suc i + bit (raises m s p n i)) (spacing_there u n w) (direction_sign (toward s (raises m s p n i) (left_out p n i)))

@@ -16,8 +16,7 @@ nearest_by_parts : (Q R E : ℕ) (b : Bool) → R < E → nearest Q (compare ((b
 nearest_by_parts Q R E b h = grind (arith, ints)
 
 whole_by_parts : (w : Way) (Q R E : ℕ) (b : Bool) → R < E → whole w (Q * (2 * E) + (bit b * E + R)) (2 * E) ≡ Q + bit (raised w (eqb (Q % 2) 1) b (ltb 0 R))
-whole_by_parts near Q R E true h = grind (arith, div-mul-add Q (2 * E) (1 * E + R), mod-mul-add Q (2 * E) (1 * E + R), nearest_by_parts Q R E true)
-whole_by_parts near Q R E false h = grind (arith, div-mul-add Q (2 * E) (0 * E + R), mod-mul-add Q (2 * E) (0 * E + R), nearest_by_parts Q R E false)
+whole_by_parts near Q R E b h = grind (arith, div-mul-add Q (2 * E) (bit b * E + R), mod-mul-add Q (2 * E) (bit b * E + R), nearest_by_parts Q R E b)
 whole_by_parts cut Q R E b h = grind (arith, div-mul-add Q (2 * E) (bit b * E + R))
 whole_by_parts away Q R E true h = div-eq_of_lt-le {k = Q + 1} (2 * E) (omega arith) (omega arith)
 whole_by_parts away Q zero E false h = div-eq_of_lt-le {k = Q + 0} (2 * E) (omega arith) (omega arith)

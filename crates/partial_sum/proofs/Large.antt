@@ -1,10 +1,9 @@
 -- A full window is so large that what it is decides how every number next to it rounds.
-use Rattle.std.proofs.Common.{◌≡◌, ℕ, zero, suc, ◌+◌, ◌*◌, ◌^◌, ◌<◌, ◌≤◌, Bool, true, List, [], ◌∷◌, length, get_or, take, drop, ℤ, pos, ◌+ℤ◌, nat_abs, sym, refl, ap, ◌∙◌, subst, ⊎_elim, lt_of_lt_of_le, mul-le-mul_right, lt_of_not-le, not-le_of_lt, arith, pow_mono, pow-add}
+use Rattle.std.proofs.Common.{◌≡◌, ℕ, zero, suc, ◌+◌, ◌*◌, ◌^◌, ◌<◌, ◌≤◌, Bool, true, List, [], ◌∷◌, length, get_or, take, drop, ℤ, pos, ◌+ℤ◌, nat_abs, sym, refl, ap, ◌∙◌, subst, lt_of_lt_of_le, mul-le-mul_right, lt_of_not-le, not-le_of_lt, arith, pow_mono, pow-add}
 use lib.Ieee.{size}
 use lib.Ieee.Digits.{size-lt}
 use borrow.Author.Differences.{ints}
 use Rattle.std.proofs.lemmas.List.{drop_more, length-take-le, get_or-take}
-use Rattle.std.proofs.lemmas.Bool.{cases_lt}
 use Rattle.exact.specs.Integers.{scale}
 use Rattle.exact.proofs.Scaling.{scale_none, scale_scale, scale_abs}
 use Rattle.exact.proofs.LimbBits.{pow_next_limb}
@@ -43,10 +42,7 @@ top_large p long =
     let top : totals_value (drop 129 p.totals) ≡ head p = head_alone p.totals p.whole in
     let some = p.sound.shaped.head_some long in
     let second = p.sound.all_totals 128 (omega arith) in
-    ⊎_elim
-    (λ (small : nat_abs (head p) < 2 ^ 20). (let none = p.sound.shaped.head_large long small in omega (arith, ints)))
-    (λ (large : 2 ^ 20 ≤ nat_abs (head p)). omega (arith, ints))
-    (cases_lt (nat_abs (head p)) (2 ^ 20))
+    grind (arith, ints, p.sound.shaped.head_large long)
 
 pub window_large : (p : PartialSum) (k : ℕ) → p.from ≡ 0 → k ≡ 32 * 128 → 2 ^ 31 * 2 ^ k + 2 ^ 50 ≤ nat_abs (window p)
 window_large p k full e =

@@ -1,8 +1,8 @@
 -- The window with its lowest total changed, as it is settled.
-use Rattle.std.proofs.Common.{◌≡◌, ℕ, suc, ◌+◌, ◌-◌, ◌*◌, ◌^◌, ◌<◌, ◌≤◌, List, [], ◌∷◌, ◌++◌, length, take, drop, set, ℤ, ◌+ℤ◌, nat_abs, ap, ◌∙◌, arith}
+use Rattle.std.proofs.Common.{◌≡◌, ℕ, suc, ◌+◌, ◌-◌, ◌*◌, ◌^◌, ◌<◌, ◌≤◌, List, [], ◌++◌, length, take, drop, set, ℤ, ◌+ℤ◌, nat_abs, ap, ◌∙◌, arith}
 use Rattle.std.proofs.lemmas.Grind.{common_steps}
 use borrow.Author.Differences.{ints}
-use Rattle.std.proofs.lemmas.List.{length-append, set_split, take_at, drop_all}
+use Rattle.std.proofs.lemmas.List.{set_split, take_at, drop_all}
 use Rattle.exact.specs.Limbs.{limbs_value}
 use Rattle.exact.proofs.LimbSteps.{value_push}
 use Rattle.totals.specs.Totals.{totals_value, SmallTotals}
@@ -28,10 +28,4 @@ slice_small p a v few e k l = grind (arith, ints, common_steps, slot_small p (p.
 
 -- ---- the limb above
 pub top_written : (xs ys : List ℕ) (n t : ℕ) → length xs ≡ n → length ys ≡ 1 → limbs_value (set (xs ++ ys) n t) ≡ t * 2 ^ (32 * n) + limbs_value xs
-top_written xs ys n t low one =
-    let long : length (xs ++ ys) ≡ n + 1 = length-append xs ys ∙ omega arith in
-    let split : set (xs ++ ys) n t ≡ take n (xs ++ ys) ++ t ∷ drop (suc n) (xs ++ ys) = set_split (xs ++ ys) n t (omega arith) in
-    let front : take n (xs ++ ys) ≡ xs = take_at xs ys n low in
-    let back : drop (suc n) (xs ++ ys) ≡ [] = drop_all (suc n) (xs ++ ys) (omega arith) in
-    ap limbs_value (split ∙ ap (λ (l : List ℕ). l ++ t ∷ drop (suc n) (xs ++ ys)) front ∙ ap (λ (l : List ℕ). xs ++ t ∷ l) back)
-    ∙ value_push xs t ∙ ap (λ (k : ℕ). limbs_value xs + t * 2 ^ (32 * k)) low ∙ omega arith
+top_written xs ys n t low one = grind (arith, common_steps, set_split (xs ++ ys) n t, take_at xs ys n low, drop_all (suc n) (xs ++ ys), value_push xs t)
