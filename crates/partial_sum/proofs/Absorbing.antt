@@ -119,8 +119,7 @@ folded p q t d a f e from lowest column rest =
     (λ (next : p.column ≡ d +ℤ pos 1). ap (scale (head p)) (let g : drop_between p.column d ≡ 32 = omega (arith, ints) in g))
     (λ (nothing : head p ≡ pos 0). ap (λ (z : ℤ). scale z (drop_between p.column d)) nothing ∙ zero_scale (drop_between p.column d) ∙ sym (zero_scale 32) ∙ ap (λ (z : ℤ). scale z 32) (sym nothing))
     f.next in
-    let zeros : (k : ℕ) → k < 129 → slot_of q k ≡ pos 0 = λ k l. slot_kept q p.totals 129 k v e (omega arith) ∙ s.unused k (omega arith) in
-    (
+    let zeros : (k : ℕ) → k < 129 → slot_of q k ≡ pos 0 = λ k l. slot_kept q p.totals 129 k v e (omega arith) ∙ s.unused k (omega arith) in (
       record { value = after ∙ ap (λ (z : ℤ). z +ℤ t) (sym moved); at = column; no_higher = omega (arith, ints) },
       alone_sound q (lowest ∙ sym column) (rest ∙ none) (from ∙ alone) zeros (omega (arith, ints)),
     )

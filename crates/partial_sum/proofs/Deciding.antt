@@ -34,14 +34,9 @@ coarse u W L w n from upto long = grind (arith, ints)
 pub full_determined : (u : ℤ → ℤ) (W : ℕ) → Lawful u W → (p : PartialSum) (a : ℤ) → p.column <ℤ p.lowest → InReach p.lowest → nat_abs a ≤ 2 ^ 44
     → ¬ Uncertain u (window p +ℤ a) (column_weight p.lowest)
 full_determined u W L p a closed reach few uncertain =
-    let from = reach.from in
-    let upto = reach.upto in
-    let w = column_weight p.lowest in
-    let n = uncertain.magnitude in
-    let long = magnitude_long p uncertain.negative n a (p.sound.shaped.closed_full closed) few uncertain.meant in
-    let above = coarse u W L w (size n) (omega (arith, ints)) (omega (arith, ints)) long in
-    let fine = uncertain.fine in
-    omega (arith, ints)
+    let long = magnitude_long p uncertain.negative uncertain.magnitude a (p.sound.shaped.closed_full closed) few uncertain.meant in
+    let above = coarse u W L (column_weight p.lowest) (size uncertain.magnitude) (omega (arith, ints, reach.from)) (omega (arith, ints, reach.upto)) long in
+    omega (arith, ints, uncertain.fine)
 
 -- ---- a window that reaches down to the sum's column
 -- both ends lie on their side of the sum

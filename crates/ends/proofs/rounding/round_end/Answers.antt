@@ -45,7 +45,7 @@ round_at-requires g c =
     let e = c.exponent_of-exponent in
     let L = g.G.Grid.lawful s in
     let (unit, inside, fits, next) = laws_read (g.G.Grid.spacing s) (g.G.Grid.widest s) (length c.args.answer.now) L e.result c.spacing-unit.result c.spacing-next.result (search rules) (search rules) (search rules)
-        e.ensures.from e.ensures.upto c.spacing-unit.ensures c.spacing-next.ensures c.requires.room in
+    e.ensures.from e.ensures.upto c.spacing-unit.ensures c.spacing-next.ensures c.requires.room in
     record {
       bits = search rules;
       exponent = omega (arith, ints, e.ensures.is, c.bit_length-bits.ensures.is);
