@@ -1,11 +1,10 @@
 -- An answer's limbs, exponent and precision are determined by what number it is.
-use Rattle.std.proofs.Common.{◌≡◌, ℕ, zero, suc, ◌+◌, ◌-◌, ◌*◌, ◌^◌, ◌<◌, ◌≤◌, Bool, ℤ, pos, ◌+ℤ◌, ◌-ℤ◌, nat_abs, Some, None, Option, sym, refl, ap, ◌∙◌, subst, mul-pos, pow-suc, arith, pow_pos}
+use Rattle.std.proofs.Common.{◌≡◌, ℕ, zero, suc, ◌+◌, ◌-◌, ◌*◌, ◌^◌, ◌<◌, ◌≤◌, Bool, ℤ, pos, ◌+ℤ◌, ◌-ℤ◌, nat_abs, Some, None, Option, sym, refl, ap, ◌∙◌, subst, mul-pos, arith, pow_pos}
 use lib.Ieee.{size}
 use borrow.Author.Differences.{ints}
-use Rattle.exact.specs.Integers.{gap, scale, signed}
+use Rattle.exact.specs.Integers.{signed}
 use Rattle.exact.specs.Dyadic.{Dyadic, dyadic, ◌≈ᴰ◌, Nonzero, exponent}
 use Rattle.exact.proofs.Signed.{abs_signed}
-use Rattle.exact.proofs.Scaling.{scale_none}
 use Rattle.exact.proofs.BitLength.{size_is, size_scale}
 use Rattle.exact.proofs.Order.{≈ᴰ_sym, ≈ᴰ_trans}
 use Rattle.exact.proofs.Exponents.{exponent_≈, nonzero_≈}
@@ -25,10 +24,7 @@ last_weight e p = e -ℤ pos (32 * limbs_for p)
 
 top_bit : (n p : ℕ) → n < 2 ^ p → 2 ^ p ≤ 2 * n → (size n ≡ p) × (0 < n)
 top_bit n zero l g = absurd (omega arith)
-top_bit n (suc q) l g =
-    let e : 2 ^ suc q ≡ 2 ^ q * 2 = pow-suc 2 q in
-    let some = pow_pos q in
-    (size_is n q (omega arith) l, omega arith)
+top_bit n (suc q) l g = grind (arith, size_is n q)
 
 module _ (u : ℤ → ℤ) (e : ℤ) (p a : ℕ) (s : Bool) (d : Placed u e p a) where
   placed_size : (size a ≡ 32 * limbs_for p) × (0 < a)
@@ -55,15 +51,7 @@ module _ (u : ℤ → ℤ) (e f : ℤ) (p q a b : ℕ) (s : Bool) (d : Placed u 
   same_precision = let x = d.precise in let y = g.precise in let i = same_exponent in let j : u e ≡ u f = ap u i in omega (arith, ints)
 
   pub same_limbs : a ≡ b
-  same_limbs =
-      let v = last_weight e p in
-      let w = last_weight f q in
-      let i = same_exponent in
-      let at : v ≡ w = ap (λ (z : ℤ). last_weight z p) i ∙ ap (last_weight f) same_precision in
-      let x : gap v w ≡ 0 = omega (arith, ints) in
-      let y : gap w v ≡ 0 = omega (arith, ints) in
-      let counts : signed s a ≡ signed s b = sym (scale_none (signed s a)) ∙ ap (scale (signed s a)) (sym x) ∙ same ∙ ap (scale (signed s b)) y ∙ scale_none (signed s b) in
-      sym (abs_signed s a) ∙ ap nat_abs counts ∙ abs_signed s b
+  same_limbs = let i = same_exponent in let j = same_precision in grind (arith, ints, abs_signed s a, abs_signed s b)
 
 signs_apart : (d e : Direction) → direction_sign d ≡ direction_sign e → d ≡ e
 signs_apart d e h = grind (arith, ints)
