@@ -1,5 +1,5 @@
 -- What is written for an end is what the numbers that it stands for round to.
-use Rattle.std.proofs.Common.{◌≡◌, ℕ, suc, ◌+◌, ◌-◌, ◌*◌, ◌/◌, ◌^◌, ◌<◌, ◌≤◌, Bool, true, false, List, get_or, ℤ, pos, ◌+ℤ◌, ◌-ℤ◌, ◌≤ℤ◌, ◌<ℤ◌, Some, None, Option, sym, refl, ap, ◌∙◌, subst, inl, inr, lt_of_lt_of_le, pow-suc, arith, pow_pos, pow_mono, pow-add}
+use Rattle.std.proofs.Common.{◌≡◌, ℕ, suc, ◌+◌, ◌-◌, ◌*◌, ◌/◌, ◌^◌, ◌<◌, ◌≤◌, Bool, true, false, List, get_or, ℤ, pos, ◌+ℤ◌, ◌-ℤ◌, ◌≤ℤ◌, ◌<ℤ◌, Some, None, Option, sym, refl, ap, ◌∙◌, subst, lt_of_lt_of_le, pow-suc, arith, pow_pos, pow_mono, pow-add}
 use native.Mathlib.Nat.{div-eq_of_lt}
 use lib.Ieee.{size}
 use lib.Ieee.Digits.{size-lt}
@@ -11,7 +11,6 @@ use Rattle.exact.specs.Limbs.{limbs_value}
 use Rattle.exact.proofs.BitLength.{size_top}
 use Rattle.exact.specs.Dyadic.{◌≈ᴰ◌}
 use Rattle.exact.proofs.Order.{≈ᴰ_trans}
-use Rattle.exact.proofs.Scaling.{zero_scale}
 use Rattle.exact.proofs.BitLength.{pos_of_size}
 use Rattle.exact.proofs.Shifts.{shift_down, shift_up, first_bits_full, half_power}
 use Rattle.exact.proofs.LimbBits.{SmallLimbs, limb_past_value}
@@ -47,8 +46,7 @@ in_limbs u m x s M a p v e d h i r =
 
 -- no step of the grid is 0
 zeros : (s : Bool) (v : ℤ) → dyadic (signed s 0) v ≈ᴰ dyadic (pos 0) (pos 0)
-zeros false v = zero_scale (gap v (pos 0)) ∙ sym (zero_scale (gap (pos 0) v))
-zeros true v = zero_scale (gap v (pos 0)) ∙ sym (zero_scale (gap (pos 0) v))
+zeros s v = grind (arith, ints)
 
 to_zero : (u : ℤ → ℤ) (m : Mode) (x : Dyadic) (s : Bool) (a : ℕ) (v d : ℤ) → RoundsTo u m x s 0 v d → RoundsAs u m x s None a d
 to_zero u m x s a v d r = record {
@@ -70,13 +68,6 @@ power_placed u e p a h q i =
       precise = q;
     }
 
-of_extent : (u : ℤ → ℤ) (m : Mode) (s part : Bool) (n : ℕ) (w : ℤ) (x : Extent) (e : ℤ) (p a : ℕ) (t d : Direction) → x.exponent ≡ e → x.precision ≡ p → d ≡ t
-    → Answered u m s part n w (Some (record { exponent = e; precision = p })) (direction_sign t) a → Answered u m s part n w (Some x) (direction_sign d) a
-of_extent u m s part n w x e p a t d ee pp dd A =
-    let of : ℤ → ℕ → Extent = λ y q. record { exponent = y; precision = q } in
-    let is : of e p ≡ x = ap (λ (y : ℤ). of y p) (sym ee) ∙ ap (of x.exponent) (sym pp) in
-    rw dd (subst (λ (y : Extent). Answered u m s part n w (Some y) (direction_sign t) a) is A)
-
 -- ---- an end of exponent e, where the spacing is v
 module _ (u : ℤ → ℤ) (S : LawsEverywhere u) (m : Mode) (s part : Bool) (n : ℕ) (w e v : ℤ) (raise inexact : Bool)
     (ee : e ≡ w +ℤ pos (size n)) (vv : v ≡ u e) (nz : part ≡ false → 0 < n) (det : part ≡ true → w <ℤ v) (D : Decided m s part n w v raise inexact) where
@@ -85,11 +76,7 @@ module _ (u : ℤ → ℤ) (S : LawsEverywhere u) (m : Mode) (s part : Bool) (n 
 
   -- a part is left over only where the spacing is above the unit
   none_left_over : v ≤ℤ w → part ≡ false
-  none_left_over h = by_part part det
-    where
-      by_part : (b : Bool) → (b ≡ true → w <ℤ v) → b ≡ false
-      by_part false f = refl
-      by_part true f = absurd (let l = f refl in omega (arith, ints))
+  none_left_over h = grind (arith, ints)
 
   coarse_rounds : (i : ℕ) → v ≡ w +ℤ pos (suc i) → (x : Dyadic) → StandsFor s part n w x → RoundsTo u m x s (n / 2 ^ suc i + bit raise) v (direction_sign (toward s raise inexact))
   coarse_rounds i h x g =
@@ -153,20 +140,12 @@ module _ (u : ℤ → ℤ) (S : LawsEverywhere u) (m : Mode) (s part : Bool) (n 
         }
 
     pub some_kept_right : (x : Extent) (a : ℕ) (d : Direction) → d ≡ toward s raise inexact → SomeKept (n * 2 ^ p / 2 ^ size n + bit raise) e p q x a → Answered u m s part n w (Some x) (direction_sign d) a
-    some_kept_right x a d dd (inl (h1, h2, h3, h4)) = of_extent u m s part n w x e p a (toward s raise inexact) d h1 h2 dd (kept_answer a h3 h4)
-    some_kept_right x a d dd (inr (h1, h2, h3, h4)) = of_extent u m s part n w x (e +ℤ pos 1) q a (toward s raise inexact) d h1 h2 dd (carried_answer a h3 h4)
+    some_kept_right x a d dd h = grind (arith, kept_answer a, carried_answer a)
 
   -- ---- no bit is kept
   module _ (low : e ≤ℤ v) where
     unit_below : w <ℤ v
-    unit_below = by_part part nz det
-      where
-        by_part : (b : Bool) → (b ≡ false → 0 < n) → (b ≡ true → w <ℤ v) → w <ℤ v
-        by_part true f h = h refl
-        by_part false f h = from_top (size_top n (f refl))
-          where
-            from_top : ((e : ℕ) × (size n ≡ suc e) × (2 ^ e ≤ n) × (n < 2 ^ suc e)) → w <ℤ v
-            from_top (k, s, lo, hi) = omega (arith, ints)
+    unit_below = grind (arith, ints, size_top n)
 
     none_kept_rounds : (x : Dyadic) → StandsFor s part n w x → RoundsTo u m x s (bit raise) v (direction_sign (toward s raise inexact))
     none_kept_rounds x g =
@@ -193,19 +172,12 @@ module _ (u : ℤ → ℤ) (S : LawsEverywhere u) (m : Mode) (s part : Bool) (n 
     }
 
     pub none_kept_right : (x : Option Extent) (a : ℕ) (d : Direction) → d ≡ toward s raise inexact → NoneKept v raise x a → Answered u m s part n w x (direction_sign d) a
-    none_kept_right x a d dd h = by_raise raise refl h
-      where
-        by_raise : (b : Bool) → raise ≡ b → NoneKept v b x a → Answered u m s part n w x (direction_sign d) a
-        by_raise true e1 (h1, h2) = rw (h1, dd) (one_answer a e1 h2)
-        by_raise false e1 (h1, h2) = rw (h1, dd) (zero_answer a e1 h2)
+    none_kept_right x a d dd h = grind (arith, one_answer a, zero_answer a)
 
 -- ---- what the laws say at one exponent
 pub laws_there : (u : ℤ → ℤ) (W len : ℕ) → Lawful u W → (e v x : ℤ) → InRange e → InRange (e +ℤ pos 1) → v ≡ u e → x ≡ u (e +ℤ pos 1) → W ≤ 32 * len
     → (v <ℤ e → x ≤ℤ e) × (e ≤ℤ (v +ℤ pos (32 * len))) × ((e +ℤ pos 1) ≤ℤ (x +ℤ pos (32 * len)))
-laws_there u W len L e v x r0 r1 vv xx h =
-    let a = L.narrow e r0 in
-    let b = L.narrow (e +ℤ pos 1) r1 in
-    (λ l. subst (λ (y : ℤ). y ≤ℤ e) (sym xx) (L.inside e r0 (subst (λ (y : ℤ). y <ℤ e) vv l)), omega (arith, ints), omega (arith, ints))
+laws_there u W len L e v x r0 r1 vv xx h = grind (arith, ints, L.narrow e r0, L.narrow (e +ℤ pos 1) r1)
 
 -- ---- the limbs past those that the precision takes are 0
 pub unused_limbs : (u : ℤ → ℤ) (m : Mode) (s part : Bool) (n : ℕ) (w : ℤ) (extent : Option Extent) (d : ℤ) (xs : List ℕ) → SmallLimbs xs

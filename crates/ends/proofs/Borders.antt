@@ -1,9 +1,8 @@
 -- The whole units on both sides of the part left over are both on the grid exactly if the spacing there is no more than a unit.
-use Rattle.std.proofs.Common.{◌≡◌, ℕ, suc, ◌+◌, ◌%◌, ◌^◌, ◌≤◌, Bool, ℤ, pos, ◌+ℤ◌, ◌≤ℤ◌, ◌<ℤ◌, sym, subst, inl, inr, arith}
+use Rattle.std.proofs.Common.{◌≡◌, ℕ, ◌+◌, ◌%◌, ◌^◌, ◌≤◌, Bool, ℤ, pos, ◌+ℤ◌, ◌≤ℤ◌, ◌<ℤ◌, sym, subst, inl, inr, arith}
 use native.Mathlib.Nat.{mod-one}
 use lib.Ieee.{size}
 use borrow.Author.Differences.{ints}
-use Rattle.std.proofs.lemmas.Int.{by_lt_z}
 use Rattle.exact.specs.Integers.{signed, gap}
 use Rattle.exact.specs.Dyadic.{dyadic}
 use Rattle.exact.proofs.Signed.{abs_signed}
@@ -28,20 +27,11 @@ units_on_grid u s n w h = divided_units u s n w (rw (gap_none (spacing_there u n
 module _ (u : ℤ → ℤ) (S : LawsEverywhere u) (s : Bool) (n : ℕ) (w : ℤ) where
   -- the spacing one unit further is no less
   next_no_less : spacing_there u n w ≤ℤ spacing_there u (n + 1) w
-  next_no_less = elim (size_next n) [
-    | inl e ↦ rw e (omega (arith, ints))
-    | inr (e, p) ↦
-        let q : w +ℤ pos (suc (size n)) ≡ (w +ℤ pos (size n)) +ℤ pos 1 = omega (arith, ints) in
-        rw (e, q) (S.rises (w +ℤ pos (size n)))
-  ]
+  next_no_less = grind (arith, ints, size_next n, S.rises (w +ℤ pos (size n)))
 
   -- where n + 1 units are a power of two, that is on the grid
   power_on_grid : spacing_there u n w ≤ℤ w → u ((w +ℤ pos (size n)) +ℤ pos 1) ≤ℤ (w +ℤ pos (size n))
-  power_on_grid h =
-      let e = w +ℤ pos (size n) in
-      by_lt_z (u e) e
-      (λ l. S.inside e l)
-      (λ l. let f = S.flat e (e +ℤ pos 1) l (omega (arith, ints)) in omega (arith, ints))
+  power_on_grid h = let e = w +ℤ pos (size n) in grind (arith, ints, S.inside e, S.flat e (e +ℤ pos 1))
 
   pub fine_bordered : spacing_there u n w ≤ℤ w → Bordered u s n w
   fine_bordered h = (

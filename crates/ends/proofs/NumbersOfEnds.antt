@@ -1,17 +1,16 @@
 -- All the numbers that an end stands for round alike, to what the decision says.
-use Rattle.std.proofs.Common.{◌≡◌, ℕ, zero, suc, ◌+◌, ◌-◌, ◌*◌, ◌/◌, ◌%◌, ◌^◌, ◌<◌, Bool, true, false, cond, ltb, ℤ, pos, ◌+ℤ◌, ◌-ℤ◌, neg_ℤ, nat_abs, ◌≤ℤ◌, ◌<ℤ◌, sym, refl, ap, ◌∙◌, subst, inl, inr, add-mul, eq-zero-or-pos, mul-pos, arith, pow_pos}
+use Rattle.std.proofs.Common.{◌≡◌, ℕ, suc, ◌+◌, ◌-◌, ◌*◌, ◌/◌, ◌%◌, ◌^◌, ◌<◌, Bool, true, false, cond, ltb, ℤ, pos, ◌+ℤ◌, ◌-ℤ◌, neg_ℤ, nat_abs, ◌≤ℤ◌, ◌<ℤ◌, sym, refl, ap, ◌∙◌, subst, inl, inr, add-mul, eq-zero-or-pos, mul-pos, arith, pow_pos}
 use lib.Ieee.{size}
 use lib.Ieee.Digits.{size-le}
 use borrow.Author.Differences.{ints}
-use Rattle.std.proofs.lemmas.Bool.{lt-ltb, ltb-true, true≢false, false≢true}
+use Rattle.std.proofs.lemmas.Bool.{lt-ltb}
 use Rattle.exact.specs.Integers.{sign, is_negative, signed, gap, lesser, scale}
 use Rattle.exact.specs.Dyadic.{Dyadic, dyadic, at, ◌≈ᴰ◌}
-use Rattle.exact.proofs.Integers.{sign_above, sign_below}
 use Rattle.exact.proofs.Scaling.{scale_neg, scale_signed, gap_split}
 use Rattle.exact.proofs.Order.{at_same, same_at, at_lt}
 use Rattle.exact.proofs.Parts.{size_parts}
 use Rattle.exact.proofs.Signed.{negative_signed}
-use Rattle.grid.specs.Rounding.{Mode, Way, near, cut, away, whole, multiple, way_of, rounded}
+use Rattle.grid.specs.Rounding.{Mode, Way, whole, multiple, way_of, rounded}
 use Rattle.grid.proofs.Everywhere.{LawsEverywhere}
 use Rattle.grid.proofs.Magnitudes.{to}
 use Rattle.grid.proofs.Integers.{round}
@@ -35,14 +34,17 @@ pub record InSmallUnits (s p : Bool) (n : ℕ) (w : ℤ) (x : Dyadic) : Type 0 w
   pub small : r < 2 ^ gap w z
   pub part : ltb 0 r ≡ p
 
-between_up : (X : ℤ) (a b : ℕ) → pos a <ℤ X → X <ℤ pos b → (X ≡ pos (a + (nat_abs X - a))) × (nat_abs X - a < b - a) × (0 < nat_abs X - a)
-between_up X a b h g = (omega (arith, ints), omega (arith, ints), omega (arith, ints))
-
-between_down : (X : ℤ) (a b : ℕ) → neg_ℤ (pos b) <ℤ X → X <ℤ neg_ℤ (pos a) → (X ≡ neg_ℤ (pos (a + (nat_abs X - a)))) × (nat_abs X - a < b - a) × (0 < nat_abs X - a)
-between_down X a b h g = (omega (arith, ints), omega (arith, ints), omega (arith, ints))
-
-one_unit : (n P : ℕ) → (n + 1) * P - n * P ≡ P
-one_unit n P = omega (arith, add-mul n 1 P)
+-- strictly between n units of w and the next: n of them, and some small units besides
+in_between : (s : Bool) (n : ℕ) (w z : ℤ) (x : Dyadic) → z ≤ℤ w → z ≤ℤ x.weight → StandsFor s true n w x
+    → let r = nat_abs (at z x) - n * 2 ^ gap w z in (at z x ≡ signed s (n * 2 ^ gap w z + r)) × (r < 2 ^ gap w z) × (0 < r)
+in_between false n w z x a b (h, g) =
+    let lo = at_lt z (dyadic (pos n) w) x a b h in
+    let hi = at_lt z x (dyadic (pos (n + 1)) w) b a g in
+    omega (arith, ints, add-mul n 1 (2 ^ gap w z))
+in_between true n w z x a b (h, g) =
+    let lo = rw (scale_neg (pos (n + 1)) (gap w z)) at (at_lt z (dyadic (neg_ℤ (pos (n + 1))) w) x a b h) in
+    let hi = rw (scale_neg (pos n) (gap w z)) at (at_lt z x (dyadic (neg_ℤ (pos n)) w) b a g) in
+    omega (arith, ints, add-mul n 1 (2 ^ gap w z))
 
 pub in_small_units : (s p : Bool) (n : ℕ) (w : ℤ) (x : Dyadic) → StandsFor s p n w x → InSmallUnits s p n w x
 in_small_units s false n w x e =
@@ -59,37 +61,19 @@ in_small_units s false n w x e =
       small = pow_pos (gap w z);
       part = refl;
     }
-in_small_units false true n w x (h, g) =
+in_small_units s true n w x l =
     let z = lesser x.weight w in
     let a : z ≤ℤ w = omega (arith, ints) in
     let b : z ≤ℤ x.weight = omega (arith, ints) in
-    let P = 2 ^ gap w z in
-    let o = between_up (at z x) (n * P) ((n + 1) * P) (at_lt z (dyadic (pos n) w) x a b h) (at_lt z x (dyadic (pos (n + 1)) w) b a g) in
+    let o = in_between s n w z x a b l in
     record {
       z = z;
-      r = nat_abs (at z x) - n * P;
+      r = nat_abs (at z x) - n * 2 ^ gap w z;
       low = a;
       low_x = b;
       is = o.0;
-      small = subst (λ (y : ℕ). nat_abs (at z x) - n * P < y) (one_unit n P) o.1;
-      part = lt-ltb 0 (nat_abs (at z x) - n * P) o.2;
-    }
-in_small_units true true n w x (h, g) =
-    let z = lesser x.weight w in
-    let a : z ≤ℤ w = omega (arith, ints) in
-    let b : z ≤ℤ x.weight = omega (arith, ints) in
-    let P = 2 ^ gap w z in
-    let lo : neg_ℤ (pos ((n + 1) * P)) <ℤ at z x = subst (λ (y : ℤ). y <ℤ at z x) (scale_neg (pos (n + 1)) (gap w z)) (at_lt z (dyadic (neg_ℤ (pos (n + 1))) w) x a b h) in
-    let hi : at z x <ℤ neg_ℤ (pos (n * P)) = subst (λ (y : ℤ). at z x <ℤ y) (scale_neg (pos n) (gap w z)) (at_lt z x (dyadic (neg_ℤ (pos n)) w) b a g) in
-    let o = between_down (at z x) (n * P) ((n + 1) * P) lo hi in
-    record {
-      z = z;
-      r = nat_abs (at z x) - n * P;
-      low = a;
-      low_x = b;
-      is = o.0;
-      small = subst (λ (y : ℕ). nat_abs (at z x) - n * P < y) (one_unit n P) o.1;
-      part = lt-ltb 0 (nat_abs (at z x) - n * P) o.2;
+      small = o.1;
+      part = lt-ltb 0 (nat_abs (at z x) - n * 2 ^ gap w z) o.2;
     }
 
 -- ---- the spacing at the number is that at the end
@@ -111,42 +95,16 @@ same_spacing u S n r w z h l d = elim (eq-zero-or-pos n) [
 ]
 
 round_signed : (m : Mode) (k : ℕ → ℕ) (s : Bool) (X : ℕ) → 0 < X → round m k (signed s X) ≡ signed s (to (way_of m s) k X)
-round_signed m k false X h = refl
-round_signed m k true zero h = absurd (omega arith)
-round_signed m k true (suc X) h = refl
+round_signed m k s X h = grind (arith, ints)
 
 -- ---- directions
-sign_of_change : (s b : Bool) (V X : ℕ) → (b ≡ true → X < V) → (b ≡ false → V < X) → sign (signed s V -ℤ signed s X) ≡ direction_sign (toward s b true)
-sign_of_change false true V X h g = let l = h refl in sign_above (pos V -ℤ pos X) (omega (arith, ints))
-sign_of_change false false V X h g = let l = g refl in sign_below (pos V -ℤ pos X) (omega (arith, ints))
-sign_of_change true true V X h g = let l = h refl in sign_below (neg_ℤ (pos V) -ℤ neg_ℤ (pos X)) (omega (arith, ints))
-sign_of_change true false V X h g = let l = g refl in sign_above (neg_ℤ (pos V) -ℤ neg_ℤ (pos X)) (omega (arith, ints))
-
-sign_of_none : (s : Bool) (V X : ℕ) → V ≡ X → sign (signed s V -ℤ signed s X) ≡ pos 0
-sign_of_none s V X e = ap (λ (y : ℕ). sign (signed s V -ℤ signed s y)) (sym e) ∙ ap sign (none (signed s V))
-  where
-    none : (z : ℤ) → z -ℤ z ≡ pos 0
-    none z = omega (arith, ints)
-
 sign_by_parts : (s b h : Bool) (Q R E : ℕ) → R < E → (b ≡ true → cond h true (ltb 0 R) ≡ true)
     → sign (signed s ((Q + bit b) * (2 * E)) -ℤ signed s (Q * (2 * E) + (bit h * E + R))) ≡ direction_sign (toward s b (cond h true (ltb 0 R)))
-sign_by_parts s true h Q R E l c = rw (c refl) (sign_of_change s true ((Q + 1) * (2 * E)) (Q * (2 * E) + (bit h * E + R)) (λ _. below h) (λ e. absurd (true≢false e)))
-  where
-    below : (h : Bool) → Q * (2 * E) + (bit h * E + R) < (Q + 1) * (2 * E)
-    below true = omega arith
-    below false = omega arith
-sign_by_parts s false true Q R E l c = sign_of_change s false ((Q + 0) * (2 * E)) (Q * (2 * E) + (1 * E + R)) (λ e. absurd (false≢true e)) (λ _. omega arith)
-sign_by_parts s false false Q zero E l c = sign_of_none s ((Q + 0) * (2 * E)) (Q * (2 * E) + (0 * E + 0)) (omega arith)
-sign_by_parts s false false Q (suc R) E l c =
-    rw (lt-ltb 0 (suc R) (omega arith)) (sign_of_change s false ((Q + 0) * (2 * E)) (Q * (2 * E) + (0 * E + suc R)) (λ e. absurd (false≢true e)) (λ _. omega arith))
+sign_by_parts s b h Q R E l c = grind (arith, ints)
 
 -- what is raised was not exact
 raised_inexact : (w : Way) (odd half rest : Bool) → raised w odd half rest ≡ true → cond half true rest ≡ true
-raised_inexact near odd true rest e = refl
-raised_inexact near odd false rest e = absurd (false≢true e)
-raised_inexact cut odd half rest e = absurd (false≢true e)
-raised_inexact away odd true rest e = refl
-raised_inexact away odd false rest e = e
+raised_inexact w odd half rest e = grind (arith, ints)
 
 -- ---- where the spacing is above the end's unit
 module _ (u : ℤ → ℤ) (S : LawsEverywhere u) (m : Mode) (s p : Bool) (n i : ℕ) (w : ℤ) (x : Dyadic) where
@@ -188,11 +146,7 @@ module _ (u : ℤ → ℤ) (S : LawsEverywhere u) (m : Mode) (s p : Bool) (n i :
       }
     where
       positive : (r j : ℕ) → ltb 0 r ≡ p → 0 < n * 2 ^ j + r
-      positive r j e = by_part p e nz
-        where
-          by_part : (b : Bool) → ltb 0 r ≡ b → (b ≡ false → 0 < n) → 0 < n * 2 ^ j + r
-          by_part true e h = omega (arith, ltb-true 0 r e)
-          by_part false e h = omega (arith, mul-pos (h refl) (pow_pos j))
+      positive r j e = grind (arith, mul-pos, pow_pos j)
 
   pub coarse_end_rounds : suc i ≡ gap (spacing_there u n w) w → (p ≡ false → 0 < n) → StandsFor s p n w x
       → RoundsTo u m x s (n / 2 ^ suc i + bit (raises m s p n i)) (spacing_there u n w) (direction_sign (toward s (raises m s p n i) (left_out p n i)))

@@ -1,5 +1,6 @@
 -- The bits kept of a number, the bit below them and whether anything else is below decide what the kept bits round to.
 use Rattle.std.proofs.Common.{◌≡◌, ℕ, zero, suc, ◌+◌, ◌*◌, ◌/◌, ◌%◌, ◌^◌, ◌<◌, Bool, true, false, cond, eqb, ltb, ap, ◌∙◌, mod-lt, mul_comm, pow-suc, arith, pow_pos, pow-add}
+use borrow.Author.Differences.{ints}
 use Prim.Native.Nat.{compare}
 use native.Mathlib.Nat.{div-eq_of_lt-le}
 use lib.Ieee.{nearest}
@@ -12,19 +13,11 @@ use Rattle.ends.specs.Ends.{raised}
 
 -- of Q * 2E + b * E + R with R below E
 nearest_by_parts : (Q R E : ℕ) (b : Bool) → R < E → nearest Q (compare ((bit b * E + R) * 2) (2 * E)) ≡ Q + bit (raised near (eqb (Q % 2) 1) b (ltb 0 R))
-nearest_by_parts Q R E true h = grind arith
-nearest_by_parts Q R E false h = grind arith
+nearest_by_parts Q R E b h = grind (arith, ints)
 
 whole_by_parts : (w : Way) (Q R E : ℕ) (b : Bool) → R < E → whole w (Q * (2 * E) + (bit b * E + R)) (2 * E) ≡ Q + bit (raised w (eqb (Q % 2) 1) b (ltb 0 R))
-whole_by_parts near Q R E b h =
-    let l : bit b * E + R < 2 * E = below b in
-    rw (div-mul-add Q (2 * E) (bit b * E + R) l, mod-mul-add Q (2 * E) (bit b * E + R) l) (nearest_by_parts Q R E b h)
-  where
-    below : (b : Bool) → bit b * E + R < 2 * E
-    below true = omega arith
-    below false = omega arith
-whole_by_parts cut Q R E true h = div-mul-add Q (2 * E) (1 * E + R) (omega arith) ∙ omega arith
-whole_by_parts cut Q R E false h = div-mul-add Q (2 * E) (0 * E + R) (omega arith) ∙ omega arith
+whole_by_parts near Q R E b h = grind (arith, div-mul-add Q (2 * E) (bit b * E + R), mod-mul-add Q (2 * E) (bit b * E + R), nearest_by_parts Q R E b)
+whole_by_parts cut Q R E b h = grind (arith, div-mul-add Q (2 * E) (bit b * E + R))
 whole_by_parts away Q R E true h = div-eq_of_lt-le {k = Q + 1} (2 * E) (omega arith) (omega arith)
 whole_by_parts away Q zero E false h = div-eq_of_lt-le {k = Q + 0} (2 * E) (omega arith) (omega arith)
 whole_by_parts away Q (suc R) E false h = rw (lt-ltb 0 (suc R) (omega arith)) (div-eq_of_lt-le {k = Q + 1} (2 * E) (omega arith) (omega arith))

@@ -1,11 +1,12 @@
 -- What a partial sum holds after each step of absorbing a column, and that it keeps its limits.
-use Rattle.std.proofs.Common.{◌≡◌, ℕ, ◌+◌, ◌-◌, ◌*◌, ◌^◌, ◌<◌, ◌≤◌, ◌≢◌, List, length, get_or, drop, set, replicate, ℤ, pos, ◌+ℤ◌, nat_abs, ◌-ℤ◌, ◌≤ℤ◌, ◌<ℤ◌, sym, refl, ap, ◌∙◌, subst, ⊎_elim, arith, length-set, get_or-set_other, get_or-set_same}
+use Rattle.std.proofs.Common.{◌≡◌, ℕ, ◌+◌, ◌-◌, ◌*◌, ◌^◌, ◌<◌, ◌≤◌, ◌≢◌, List, length, get_or, drop, set, replicate, ℤ, pos, ◌+ℤ◌, nat_abs, ◌-ℤ◌, ◌≤ℤ◌, ◌<ℤ◌, sym, refl, ap, ◌∙◌, subst, ⊎_elim, arith, length-set}
+use Rattle.std.proofs.lemmas.Grind.{common_steps}
 use borrow.Author.Differences.{ints}
 use Rattle.std.proofs.lemmas.List.{drop_more, drop_all, get_or-replicate}
 use Rattle.std.proofs.lemmas.Int.{by_lt_z}
 use Rattle.std.proofs.lemmas.Bool.{cases_lt, cases_eq}
 use Rattle.exact.specs.Integers.{scale}
-use Rattle.exact.proofs.Scaling.{scale_none, scale_scale, scale_plus, zero_scale}
+use Rattle.exact.proofs.Scaling.{scale_scale, scale_plus, zero_scale}
 use Rattle.totals.specs.Totals.{totals_value}
 use Rattle.partial_sum.specs.Limits.{Fields, drop_between, slot_of, head_of, window_of, held_of, most_total, TotalsWithin, Shaped, Sound}
 use Rattle.partial_sum.specs.Holding.{fields, slot, head, window, held, Absorbs, Folds, Appends, Lowers}
@@ -46,10 +47,10 @@ extended p k d l =
 -- ---- slots
 -- a slot of a written window
 slot_written : (q : Fields) (ts : List ℤ) (i : ℕ) (v : ℤ) → q.totals ≡ set ts i v → i < length ts → slot_of q i ≡ v
-slot_written q ts i v e inside = ap (λ (l : List ℤ). get_or l i (pos 0)) e ∙ get_or-set_same ts i v (pos 0) inside
+slot_written q ts i v e inside = grind (arith, ints, common_steps)
 
 slot_kept : (q : Fields) (ts : List ℤ) (i k : ℕ) (v : ℤ) → q.totals ≡ set ts i v → k ≢ i → slot_of q k ≡ get_or ts k (pos 0)
-slot_kept q ts i k v e other = ap (λ (l : List ℤ). get_or l k (pos 0)) e ∙ get_or-set_other ts i k v (pos 0) other
+slot_kept q ts i k v e other = grind (arith, ints, common_steps)
 
 -- ---- a window of the head alone
 pub head_alone : (ts : List ℤ) → length ts ≡ 130 → totals_value (drop 129 ts) ≡ get_or ts 129 (pos 0)
@@ -60,20 +61,34 @@ head_alone ts long =
 
 -- an open partial sum is its window
 pub held_open : (p : Fields) → p.lowest ≡ p.column → p.rest ≡ pos 0 → held_of p ≡ window_of p
-held_open p at none =
-    let e : drop_between p.lowest p.column ≡ 0 = omega (arith, ints) in
-    let w : scale (window_of p) (drop_between p.lowest p.column) ≡ window_of p = ap (scale (window_of p)) e ∙ scale_none (window_of p) in
-    omega (arith, ints)
+held_open p at none = grind (arith, ints)
 
 held_alone : (p : Fields) → length p.totals ≡ 130 → p.lowest ≡ p.column → p.rest ≡ pos 0 → p.from ≡ 129 → held_of p ≡ head_of p
 held_alone p whole at none alone = held_open p at none ∙ ap (λ (i : ℕ). totals_value (drop i p.totals)) alone ∙ head_alone p.totals whole
 
 -- where some slot is free the partial sum is open
 open_where_room : (p : PartialSum) → 0 < p.from → p.column ≡ p.lowest
-open_where_room p room =
-    let s : Shaped (fields p) = p.sound.shaped in
-    let o = s.order in
-    by_lt_z p.column p.lowest (λ l. absurd (let z = s.closed_full l in let n : ⊥ = omega arith in n)) (λ l. omega (arith, ints))
+open_where_room p room = grind (arith, ints)
+
+-- a head alone, small enough, keeps the limits
+alone_sound : (p : Fields) → p.lowest ≡ p.column → p.rest ≡ pos 0 → p.from ≡ 129 → ((k : ℕ) → k < 129 → slot_of p k ≡ pos 0) → nat_abs (head_of p) ≤ 2 ^ 52 + 2 ^ 42 → Sound p
+alone_sound p at none alone zeros small =
+    let within : (b : ℕ) → TotalsWithin b p = λ b k l. (let z = zeros k l in omega (arith, ints)) in
+    record {
+      shaped = record {
+        order = omega (arith, ints);
+        open_rest = λ _. none;
+        closed_full = λ l. absurd (omega (arith, ints));
+        unused = λ k l. zeros k (omega arith);
+        head_small = small;
+        head_some = λ l. absurd (omega arith);
+        head_large = λ l. absurd (omega arith);
+        rest_small = omega (arith, ints);
+      };
+      open_totals = λ _. within most_total;
+      all_totals = within (2 ^ 42 + 2 ^ 11);
+      near_rest = λ l. absurd (omega (arith, ints));
+    }
 
 -- ---- one column
 pub started : (p : Fields) (t : ℤ) → nat_abs t ≤ most_total → p.totals ≡ set (replicate 130 (pos 0)) 129 t → p.from ≡ 129 → p.lowest ≡ p.column → p.rest ≡ pos 0 → (held_of p ≡ t) × Sound p
@@ -81,24 +96,7 @@ started p t small e alone at none =
     let long : length p.totals ≡ 130 = ap length e ∙ length-set (replicate 130 (pos 0)) 129 t in
     let last : slot_of p 129 ≡ t = slot_written p (replicate 130 (pos 0)) 129 t e (omega arith) in
     let zeros : (k : ℕ) → k < 129 → slot_of p k ≡ pos 0 = λ k l. slot_kept p (replicate 130 (pos 0)) 129 k t e (omega arith) ∙ get_or-replicate 130 k (pos 0) (pos 0) (omega arith) in
-    let within : (b : ℕ) → TotalsWithin b p = λ b k l. (let z = zeros k l in omega (arith, ints)) in (
-      held_alone p long at none alone ∙ last,
-      record {
-        shaped = record {
-          order = omega (arith, ints);
-          open_rest = λ _. none;
-          closed_full = λ l. absurd (omega (arith, ints));
-          unused = λ k l. zeros k (omega arith);
-          head_small = omega (arith, ints);
-          head_some = λ l. absurd (omega arith);
-          head_large = λ l. absurd (omega arith);
-          rest_small = omega (arith, ints);
-        };
-        open_totals = λ _. within most_total;
-        all_totals = within (2 ^ 42 + 2 ^ 11);
-        near_rest = λ l. absurd (omega (arith, ints));
-      },
-    )
+    (held_alone p long at none alone ∙ last, alone_sound p at none alone zeros (omega (arith, ints)))
 
 -- ---- a column into the head
 pub folded : (p : PartialSum) (q : Fields) (t d : ℤ) → Absorbs p t d → Folds p d → q.totals ≡ set p.totals 129 (scale (head p) 32 +ℤ t) → q.from ≡ p.from → q.lowest ≡ d → q.column ≡ d → q.rest ≡ p.rest
@@ -121,24 +119,9 @@ folded p q t d a f e from lowest column rest =
     (λ (next : p.column ≡ d +ℤ pos 1). ap (scale (head p)) (let g : drop_between p.column d ≡ 32 = omega (arith, ints) in g))
     (λ (nothing : head p ≡ pos 0). ap (λ (z : ℤ). scale z (drop_between p.column d)) nothing ∙ zero_scale (drop_between p.column d) ∙ sym (zero_scale 32) ∙ ap (λ (z : ℤ). scale z 32) (sym nothing))
     f.next in
-    let zeros : (k : ℕ) → k < 129 → slot_of q k ≡ pos 0 = λ k l. slot_kept q p.totals 129 k v e (omega arith) ∙ s.unused k (omega arith) in
-    let within : (b : ℕ) → TotalsWithin b q = λ b k l. (let z = zeros k l in omega (arith, ints)) in (
+    let zeros : (k : ℕ) → k < 129 → slot_of q k ≡ pos 0 = λ k l. slot_kept q p.totals 129 k v e (omega arith) ∙ s.unused k (omega arith) in (
       record { value = after ∙ ap (λ (z : ℤ). z +ℤ t) (sym moved); at = column; no_higher = omega (arith, ints) },
-      record {
-        shaped = record {
-          order = omega (arith, ints);
-          open_rest = λ _. rest ∙ none;
-          closed_full = λ l. absurd (omega (arith, ints));
-          unused = λ k l. zeros k (omega arith);
-          head_small = omega (arith, ints);
-          head_some = λ l. absurd (omega arith);
-          head_large = λ l. absurd (omega arith);
-          rest_small = omega (arith, ints);
-        };
-        open_totals = λ _. within most_total;
-        all_totals = within (2 ^ 42 + 2 ^ 11);
-        near_rest = λ l. absurd (omega (arith, ints));
-      },
+      alone_sound q (lowest ∙ sym column) (rest ∙ none) (from ∙ alone) zeros (omega (arith, ints)),
     )
 
 -- ---- a column below the head
@@ -155,7 +138,7 @@ extended_window p q d x =
 
 -- the head stays what it was, and it was not 0
 head_stays : (p : PartialSum) (d : ℤ) → Appends p d → 0 < nat_abs (head p)
-head_stays p d a = ⊎_elim p.sound.shaped.head_some (λ l. a.some (omega (arith, p.used))) (cases_lt p.from 129)
+head_stays p d a = grind (arith, ints)
 
 -- where the window_of reaches d
 appended : (p : PartialSum) (q r : Fields) (t d : ℤ) → Absorbs p t d → Appends p d → Extended p q d → q.lowest ≡ d → r.totals ≡ set q.totals q.from t → r.from ≡ q.from → r.lowest ≡ q.lowest → r.column ≡ d → r.rest ≡ q.rest

@@ -1,12 +1,10 @@
 -- What rounding the two ends one by one says of both.
-use Rattle.std.proofs.Common.{◌≡◌, ℕ, ◌^◌, ◌≤◌, Bool, true, false, ℤ, pos, ◌+ℤ◌, neg_ℤ, nat_abs, ◌<ℤ◌, Some, None, Option, sym, refl, ◌∙◌, subst, arith}
+use Rattle.std.proofs.Common.{◌≡◌, ℕ, ◌^◌, ◌≤◌, Bool, true, false, ℤ, pos, ◌+ℤ◌, nat_abs, ◌<ℤ◌, Some, None, Option, sym, refl, ◌∙◌, subst, arith}
 use Rattle.std.proofs.lemmas.Bool.{false≢true}
 use borrow.Author.Differences.{ints}
 use Rattle.std.proofs.lemmas.Int.{by_lt_z}
 use Rattle.exact.specs.Integers.{scale}
-use Rattle.exact.specs.Dyadic.{dyadic, ◌≈ᴰ◌}
 use Rattle.exact.proofs.Scaling.{zero_scale}
-use Rattle.exact.proofs.Order.{≈ᴰ_sym, ≈ᴰ_trans}
 use Rattle.batch.specs.Term.{column_weight}
 use Rattle.grid.specs.Spacing.{Lawful}
 use Rattle.grid.specs.Rounding.{Mode, rounded, Alike}
@@ -15,23 +13,16 @@ use Rattle.grid.proofs.Monotone.{congruent}
 use Rattle.ends.specs.declared.rounded_end.RoundedEnd.{RoundedEnd}
 use Rattle.partial_sum.specs.Lying.{Lies}
 use Rattle.partial_sum.specs.Limits.{drop_between, InReach}
-use Rattle.partial_sum.specs.Holding.{fields, window, held}
+use Rattle.partial_sum.specs.Holding.{fields, window}
 use Rattle.partial_sum.specs.Ends.{lower_number, upper_number, LiesAt, Reached}
 use Rattle.partial_sum.specs.Rounded.{Uncertain, Certain, Undecided, Decided}
 use Rattle.partial_sum.specs.declared.sum.PartialSum.{PartialSum}
 use Rattle.partial_sum.specs.declared.end.WindowEnd.{WindowEnd}
-use Rattle.partial_sum.proofs.Placing.{lies_once, sum_same}
-use Rattle.partial_sum.proofs.Ending.{last_lower, last_upper}
-use Rattle.partial_sum.proofs.Deciding.{full_determined, lower_apart, upper_apart}
+use Rattle.partial_sum.proofs.Placing.{lies_once}
+use Rattle.partial_sum.proofs.Ending.{in_column}
+use Rattle.partial_sum.proofs.Deciding.{full_determined, end_number, ends_apart}
 use Rattle.partial_sum.proofs.Unique.{same_from_alike, alike_from_same}
 use Rattle.partial_sum.proofs.Resting.{rest_few, rest_none}
-
--- the last two ends are one number
-last_same : (p : PartialSum) (n : ℕ) → lower_number p n None ≈ᴰ upper_number p n None
-last_same p n =
-    let c = column_weight p.column in
-    ≈ᴰ_trans (lower_number p n None) (dyadic (held p +ℤ pos 0) c) (upper_number p n None) (sum_same (held p) (neg_ℤ (pos 0)) c c (omega (arith, ints)) refl)
-    (≈ᴰ_sym (upper_number p n None) (dyadic (held p +ℤ pos 0) c) (sum_same (held p) (pos 0) c c (omega (arith, ints)) refl))
 
 module _ (u : ℤ → ℤ) (W : ℕ) (L : Lawful u W) (m : Mode) (p : PartialSum) (reach : InReach p.lowest) (n : ℕ) where
   -- closed or open
@@ -41,32 +32,24 @@ module _ (u : ℤ → ℤ) (W : ℕ) (L : Lawful u W) (m : Mode) (p : PartialSum
   nothing_left : p.column ≡ p.lowest → nat_abs p.rest ≤ 1024
   nothing_left here = let z = p.sound.shaped.open_rest here in omega (arith, ints)
 
-  pub undecided_lower : (below : Option ℤ) → Reached p n below → (e : WindowEnd) → nat_abs e.offset ≤ 2 ^ 44 → LiesAt p e (lower_number p n below) → (e.partial ≡ true) × Uncertain u (window p +ℤ e.offset) (column_weight p.lowest) → Undecided u m p n below
-  undecided_lower None reached e few lies (part, uncertain) =
-      by_window (λ closed. absurd (full_determined u W L p e.offset closed reach few uncertain))
-      (λ here.
-      (let z : p.rest ≡ scale (pos 0) (drop_between p.lowest p.column) = p.sound.shaped.open_rest here ∙ sym (zero_scale (drop_between p.lowest p.column)) in
-      let w = column_weight p.lowest in
-      false≢true (lies_once false (window p +ℤ pos 0) (window p +ℤ e.offset) w (lower_number p n None) (last_lower p record { offset = pos 0; partial = false } n p.rest z refl) (subst (λ (b : Bool). Lies b (window p +ℤ e.offset) w (lower_number p n None)) part lies)).0))
-  undecided_lower (Some d) reached e few lies (part, uncertain) =
-      by_window (λ closed. absurd (full_determined u W L p e.offset closed reach few uncertain))
-      (λ here. record {
-        apart = lower_apart u (laws_everywhere u W L) m p here n d reached (window p +ℤ e.offset) (subst (λ (b : Bool). Lies b (window p +ℤ e.offset) (column_weight p.lowest) (lower_number p n (Some d))) part lies) uncertain;
-        rest_few = nothing_left here;
-        rest_none = λ _. p.sound.shaped.open_rest here;
-      })
+  rest_whole : p.column ≡ p.lowest → p.rest ≡ scale (pos 0) (drop_between p.lowest p.column)
+  rest_whole here = p.sound.shaped.open_rest here ∙ sym (zero_scale (drop_between p.lowest p.column))
 
-  pub undecided_upper : (below : Option ℤ) → Reached p n below → (e : WindowEnd) → nat_abs e.offset ≤ 2 ^ 44 → LiesAt p e (upper_number p n below) → (e.partial ≡ true) × Uncertain u (window p +ℤ e.offset) (column_weight p.lowest) → Undecided u m p n below
-  undecided_upper None reached e few lies (part, uncertain) =
+  -- both ends without a column below are a whole number of units
+  last_whole : (upper : Bool) → p.column ≡ p.lowest → LiesAt p record { offset = pos 0; partial = false } (end_number upper p n None)
+  last_whole false here = in_column p record { offset = pos 0; partial = false } (pos 0) p.column p.rest refl (rest_whole here) (omega (arith, ints))
+  last_whole true here = in_column p record { offset = pos 0; partial = false } (pos 0) p.column p.rest refl (rest_whole here) (omega (arith, ints))
+
+  pub undecided_at : (upper : Bool) (below : Option ℤ) → Reached p n below → (e : WindowEnd) → nat_abs e.offset ≤ 2 ^ 44 → LiesAt p e (end_number upper p n below) → (e.partial ≡ true) × Uncertain u (window p +ℤ e.offset) (column_weight p.lowest) → Undecided u m p n below
+  undecided_at upper None reached e few lies (part, uncertain) =
       by_window (λ closed. absurd (full_determined u W L p e.offset closed reach few uncertain))
       (λ here.
-      (let z : p.rest ≡ scale (pos 0) (drop_between p.lowest p.column) = p.sound.shaped.open_rest here ∙ sym (zero_scale (drop_between p.lowest p.column)) in
-      let w = column_weight p.lowest in
-      false≢true (lies_once false (window p +ℤ pos 0) (window p +ℤ e.offset) w (upper_number p n None) (last_upper p record { offset = pos 0; partial = false } n p.rest z refl) (subst (λ (b : Bool). Lies b (window p +ℤ e.offset) w (upper_number p n None)) part lies)).0))
-  undecided_upper (Some d) reached e few lies (part, uncertain) =
+      (let w = column_weight p.lowest in
+      false≢true (lies_once false (window p +ℤ pos 0) (window p +ℤ e.offset) w (end_number upper p n None) (last_whole upper here) (subst (λ (b : Bool). Lies b (window p +ℤ e.offset) w (end_number upper p n None)) part lies)).0))
+  undecided_at upper (Some d) reached e few lies (part, uncertain) =
       by_window (λ closed. absurd (full_determined u W L p e.offset closed reach few uncertain))
       (λ here. record {
-        apart = upper_apart u (laws_everywhere u W L) m p here n d reached (window p +ℤ e.offset) (subst (λ (b : Bool). Lies b (window p +ℤ e.offset) (column_weight p.lowest) (upper_number p n (Some d))) part lies) uncertain;
+        apart = ends_apart u (laws_everywhere u W L) m p here n d reached upper (window p +ℤ e.offset) (subst (λ (b : Bool). Lies b (window p +ℤ e.offset) (column_weight p.lowest) (end_number upper p n (Some d))) part lies) uncertain;
         rest_few = nothing_left here;
         rest_none = λ _. p.sound.shaped.open_rest here;
       })
@@ -93,7 +76,7 @@ module _ (u : ℤ → ℤ) (W : ℕ) (L : Lawful u W) (m : Mode) (p : PartialSum
       → Certain u m e.partial (window p +ℤ e.offset) (column_weight p.lowest) r a → Certain u m f.partial (window p +ℤ f.offset) (column_weight p.lowest) q b
       → ¬ (e ≡ f) → ¬ ((r ≡ q) × (a ≡ b)) → Undecided u m p n below
   undecided None reached e f lower upper r q a b one two ends answers =
-      apart_where_differ None reached e f lower upper r q a b one two answers (congruent u (laws_everywhere u W L) m (lower_number p n None) (upper_number p n None) (last_same p n))
+      apart_where_differ None reached e f lower upper r q a b one two answers (congruent u (laws_everywhere u W L) m (lower_number p n None) (upper_number p n None) refl)
   undecided (Some d) reached e f lower upper r q a b one two ends answers = record {
     apart = apart_where_differ (Some d) reached e f lower upper r q a b one two answers;
     rest_few = by_window (λ closed. rest_few p n d closed reached e f lower upper ends) nothing_left;

@@ -1,28 +1,26 @@
 -- Where an end is not determined the two ends do not round alike.
-use Rattle.std.proofs.Common.{◌≡◌, ℕ, zero, suc, ◌-◌, ◌^◌, ◌≤◌, true, ℤ, pos, ◌+ℤ◌, neg_ℤ, nat_abs, ◌≤ℤ◌, ◌<ℤ◌, Some, sym, ap, ◌∙◌, subst, arith}
-use lib.Signed.{≤ℤ_refl}
+use Rattle.std.proofs.Common.{◌≡◌, ℕ, zero, suc, ◌^◌, ◌≤◌, Bool, true, false, ℤ, pos, ◌+ℤ◌, neg_ℤ, nat_abs, ◌≤ℤ◌, ◌<ℤ◌, Some, Option, subst, arith}
 use lib.Ieee.{size}
 use borrow.Author.Differences.{ints}
 use Rattle.exact.specs.Dyadic.{Dyadic, dyadic, ◌≤ᴰ◌, ◌<ᴰ◌}
 use Rattle.exact.proofs.Order.{<ᴰ_≤ᴰ_trans}
 use Rattle.batch.specs.Term.{column_weight}
-use Rattle.grid.specs.Spacing.{Lawful, InRange}
+use Rattle.grid.specs.Spacing.{Lawful}
 use Rattle.grid.specs.Rounding.{Mode, rounded, Alike}
-use Rattle.grid.proofs.Everywhere.{LawsEverywhere, laws_everywhere}
+use Rattle.grid.proofs.Everywhere.{LawsEverywhere}
 use Rattle.grid.proofs.Apart.{apart}
 use Rattle.partial_sum.specs.Lying.{Lies}
 use Rattle.partial_sum.specs.Limits.{InReach}
-use Rattle.partial_sum.specs.Holding.{fields, window, held}
+use Rattle.partial_sum.specs.Holding.{window, held}
 use Rattle.partial_sum.specs.Ends.{number_held, lower_number, upper_number, Reached}
 use Rattle.partial_sum.specs.Rounded.{Uncertain}
 use Rattle.partial_sum.specs.declared.sum.PartialSum.{PartialSum}
 use Rattle.partial_sum.proofs.Placing.{≤ᴰ_<ᴰ_trans, <ᴰ_trans, sum_more, sum_less, unit_lt, unit_le}
-use Rattle.partial_sum.proofs.Absorbing.{held_open}
 use Rattle.partial_sum.proofs.Large.{magnitude_long}
 
 -- ---- a full window
 pub rises_far : (u : ℤ → ℤ) → LawsEverywhere u → (e : ℤ) (j : ℕ) → u e ≤ℤ u (e +ℤ pos j)
-rises_far u S e zero = subst (λ (z : ℤ). u e ≤ℤ u z) (let m : e ≡ e +ℤ pos 0 = omega (arith, ints) in m) (≤ℤ_refl (u e))
+rises_far u S e zero = grind (arith, ints)
 rises_far u S e (suc j) =
     let before = rises_far u S e j in
     let step = S.rises (e +ℤ pos j) in
@@ -30,28 +28,15 @@ rises_far u S e (suc j) =
 
 -- the spacing at a number of 4,128 digits or more is above its last digit
 coarse : (u : ℤ → ℤ) (W : ℕ) → Lawful u W → (w : ℤ) (n : ℕ) → neg_ℤ (pos 1920000000) ≤ℤ w → w ≤ℤ pos 1920000000 → 4128 ≤ n → w <ℤ u (w +ℤ pos n)
-coarse u W L w n from upto long =
-    let e = w +ℤ pos 4128 in
-    let range : InRange e = record { from = omega (arith, ints); upto = omega (arith, ints) } in
-    let narrow = L.narrow e range in
-    let width = L.width_high in
-    let up = rises_far u (laws_everywhere u W L) e (n - 4128) in
-    let same : e +ℤ pos (n - 4128) ≡ w +ℤ pos n = omega (arith, ints) in
-    let far : u e ≤ℤ u (w +ℤ pos n) = subst (λ (z : ℤ). u e ≤ℤ u z) same up in
-    omega (arith, ints)
+coarse u W L w n from upto long = grind (arith, ints)
 
 -- so next to a full window everything is determined
 pub full_determined : (u : ℤ → ℤ) (W : ℕ) → Lawful u W → (p : PartialSum) (a : ℤ) → p.column <ℤ p.lowest → InReach p.lowest → nat_abs a ≤ 2 ^ 44
     → ¬ Uncertain u (window p +ℤ a) (column_weight p.lowest)
 full_determined u W L p a closed reach few uncertain =
-    let from = reach.from in
-    let upto = reach.upto in
-    let w = column_weight p.lowest in
-    let n = uncertain.magnitude in
-    let long = magnitude_long p uncertain.negative n a (p.sound.shaped.closed_full closed) few uncertain.meant in
-    let above = coarse u W L w (size n) (omega (arith, ints)) (omega (arith, ints)) long in
-    let fine = uncertain.fine in
-    omega (arith, ints)
+    let long = magnitude_long p uncertain.negative uncertain.magnitude a (p.sound.shaped.closed_full closed) few uncertain.meant in
+    let above = coarse u W L (column_weight p.lowest) (size uncertain.magnitude) (omega (arith, ints, reach.from)) (omega (arith, ints, reach.upto)) long in
+    omega (arith, ints, uncertain.fine)
 
 -- ---- a window that reaches down to the sum's column
 -- both ends lie on their side of the sum
@@ -64,11 +49,16 @@ module _ (p : PartialSum) (n : ℕ) (d : ℤ) (reached : Reached p n (Some d)) w
 
 -- the sum in units of the window
 pub whole_units : (p : PartialSum) → p.column ≡ p.lowest → number_held p ≡ dyadic (window p) (column_weight p.lowest)
-whole_units p here = ap (λ (z : ℤ). dyadic z (column_weight p.column)) (held_open (fields p) (sym here) (p.sound.shaped.open_rest here)) ∙ ap (λ (c : ℤ). dyadic (window p) (column_weight c)) here
+whole_units p here = grind (arith, ints)
+
+-- one of the two ends
+abbrev pub end_number : Bool → PartialSum → ℕ → Option ℤ → Dyadic
+end_number false p n below = lower_number p n below
+end_number true p n below = upper_number p n below
 
 module _ (u : ℤ → ℤ) (S : LawsEverywhere u) (m : Mode) (p : PartialSum) (here : p.column ≡ p.lowest) (n : ℕ) (d : ℤ) (reached : Reached p n (Some d)) where
-  pub lower_apart : (v : ℤ) → Lies true v (column_weight p.lowest) (lower_number p n (Some d)) → Uncertain u v (column_weight p.lowest) → ¬ Alike (rounded u m (lower_number p n (Some d))) (rounded u m (upper_number p n (Some d)))
-  lower_apart v (l, g) uncertain =
+  pub ends_apart : (upper : Bool) (v : ℤ) → Lies true v (column_weight p.lowest) (end_number upper p n (Some d)) → Uncertain u v (column_weight p.lowest) → ¬ Alike (rounded u m (lower_number p n (Some d))) (rounded u m (upper_number p n (Some d)))
+  ends_apart false v (l, g) uncertain =
       let w = column_weight p.lowest in
       let x = lower_number p n (Some d) in
       let y = upper_number p n (Some d) in
@@ -77,9 +67,7 @@ module _ (u : ℤ → ℤ) (S : LawsEverywhere u) (m : Mode) (p : PartialSum) (h
       let less : v <ℤ window p = unit_lt v (window p) w (<ᴰ_trans (dyadic v w) x (dyadic (window p) w) l under) in
       let next : dyadic (v +ℤ pos 1) w ≤ᴰ dyadic (window p) w = unit_le (v +ℤ pos 1) (window p) w (omega (arith, ints)) in
       apart u S m x (dyadic (v +ℤ pos 1) w) y uncertain.high g (≤ᴰ_<ᴰ_trans (dyadic (v +ℤ pos 1) w) (dyadic (window p) w) y next over)
-
-  pub upper_apart : (v : ℤ) → Lies true v (column_weight p.lowest) (upper_number p n (Some d)) → Uncertain u v (column_weight p.lowest) → ¬ Alike (rounded u m (lower_number p n (Some d))) (rounded u m (upper_number p n (Some d)))
-  upper_apart v (l, g) uncertain =
+  ends_apart true v (l, g) uncertain =
       let w = column_weight p.lowest in
       let x = lower_number p n (Some d) in
       let y = upper_number p n (Some d) in

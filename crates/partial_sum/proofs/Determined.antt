@@ -1,6 +1,7 @@
 -- What an end's sign and magnitude round to is what the numbers at the end round to.
-use Rattle.std.proofs.Common.{◌≡◌, ℕ, Bool, true, false, ℤ, pos, Some, None, Option, sym, ap, ◌∙◌, subst, inl, arith}
-use Rattle.exact.specs.Integers.{gap, scale, is_negative}
+use Rattle.std.proofs.Common.{◌≡◌, ℕ, Bool, true, false, ℤ, pos, Some, None, Option, sym, ◌∙◌, subst, inl, arith}
+use borrow.Author.Differences.{ints}
+use Rattle.exact.specs.Integers.{gap}
 use Rattle.exact.specs.Dyadic.{Dyadic, dyadic, ◌≈ᴰ◌}
 use Rattle.exact.proofs.Scaling.{zero_scale, scale_inj}
 use Rattle.grid.specs.Rounding.{Mode, rounded}
@@ -25,27 +26,17 @@ as_rounded u m s partial n v w (Some r) a meant (coarse, (sign, answered)) deter
 }
 
 -- ---- 0
-nothing_meant : (s : Bool) (v : ℤ) → Meant s false 0 v → v ≡ pos 0
-nothing_meant false v e = e
-nothing_meant true v (e, some) = absurd (omega arith)
-
 none_there : (w : ℤ) (x : Dyadic) → x ≈ᴰ dyadic (pos 0) w → x.count ≡ pos 0
 none_there w x e = scale_inj x.count (pos 0) (gap x.weight w) (e ∙ zero_scale (gap w x.weight) ∙ sym (zero_scale (gap x.weight w)))
 
 none_rounds : (u : ℤ → ℤ) (m : Mode) (x : Dyadic) (a : ℕ) → x.count ≡ pos 0 → RoundsAs u m x false None a (pos 0)
 unfolding rounded
-none_rounds u m x a none =
-    let both = exact u m x (inl none) in
-    record {
-      values = subst (λ (y : Dyadic). y ≈ᴰ dyadic (pos 0) (pos 0)) (sym both.0) (ap (λ (z : ℤ). scale z (gap x.weight (pos 0))) none ∙ zero_scale (gap x.weight (pos 0)) ∙ sym (zero_scale (gap (pos 0) x.weight)));
-      signs = ap is_negative none;
-      directions = both.1;
-    }
+none_rounds u m x a none = grind (arith, ints, exact u m x (inl none))
 
 pub nothing_rounds : (u : ℤ → ℤ) (m : Mode) (s partial : Bool) (n : ℕ) (v w : ℤ) (a : ℕ) → partial ≡ false → n ≡ 0 → a ≡ 0
     → Meant s partial n v → RoundedAt u m partial v w (Some (record { negative = false; direction = Exact; extent = None })) a
 nothing_rounds u m s partial n v w a whole none empty meant =
-    let z : v ≡ pos 0 = nothing_meant s v (subst (λ (k : ℕ). Meant s false k v) none (subst (λ (b : Bool). Meant s b n v) whole meant)) in
+    let z : v ≡ pos 0 = grind (arith, ints) in
     record {
       limbs = empty;
       rounds = λ x l. none_rounds u m x a (none_there w x (subst (λ (y : ℤ). x ≈ᴰ dyadic y w) z (subst (λ (b : Bool). Lies b v w x) whole l)));

@@ -1,43 +1,18 @@
 -- A partial sum that holds the sum of parts has their ends.
-use Rattle.std.proofs.Common.{◌≡◌, ◌+◌, ◌<◌, Bool, true, cond, List, [], ◌∷◌, ℤ, pos, ◌+ℤ◌, ◌<ℤ◌, Some, None, sym, refl, ap, ◌∙◌, subst, inl, inr, arith}
-use lib.Signed.{lt_z}
+use Rattle.std.proofs.Common.{◌<◌, List, [], ◌∷◌, ℤ, ◌<ℤ◌, Some, None, sym, subst, inl, inr, arith}
 use borrow.Author.Differences.{ints}
-use Rattle.exact.specs.Integers.{scale}
-use Rattle.exact.specs.Dyadic.{Dyadic, dyadic, plus, negation}
 use Rattle.batch.specs.Term.{column_weight}
-use Rattle.column.specs.Parts.{Part, low}
+use Rattle.column.specs.Parts.{Part}
 use Rattle.column.specs.Columns.{Occupied}
-use Rattle.column.specs.Ends.{reaching_below, sum_down_to, bound}
-use Rattle.column.specs.Walk.{first_column}
-use Rattle.partial_sum.specs.Limits.{drop_between}
-use Rattle.partial_sum.specs.Ends.{number_held, bound_before}
-use Rattle.partial_sum.specs.Joints.{Holds, EndsAreEnds, ColumnsReached, SumsAbsorbed}
-use Rattle.partial_sum.specs.declared.sum.PartialSum.{PartialSum}
-
-same_number : (ps : List Part) (p : PartialSum) (c : ℤ) → Holds ps p c → number_held p ≡ sum_down_to ps c
-same_number ps p c h = ap (λ (n : ℤ). dyadic n (column_weight p.column)) h.value ∙ ap (λ (d : ℤ). dyadic (sum_down_to ps c).count (column_weight d)) h.at
-
-same_bound : (ps : List Part) (p : PartialSum) (c : ℤ) (cs : List ℤ) → Holds ps p c → bound_before p.column (reaching_below ps (column_weight c)) (first_column cs) ≡ bound ps c cs
-same_bound ps p c [] h = ap (λ (d : ℤ). dyadic (pos 0) (column_weight d)) h.at
-same_bound ps p c (d ∷ ds) h = refl
+use Rattle.column.specs.Ends.{reaching_below}
+use Rattle.partial_sum.specs.Joints.{EndsAreEnds, ColumnsReached, SumsAbsorbed}
 
 pub ends_are_ends : EndsAreEnds
-ends_are_ends ps p c cs h =
-    let n = same_number ps p c h in
-    let b = same_bound ps p c cs h in
-    let B = bound_before p.column (reaching_below ps (column_weight c)) (first_column cs) in
-    record {
-      lower = ap (λ (x : Dyadic). plus x (negation B)) n ∙ ap (λ (y : Dyadic). plus (sum_down_to ps c) (negation y)) b;
-      upper = ap (λ (x : Dyadic). plus x B) n ∙ ap (λ (y : Dyadic). plus (sum_down_to ps c) y) b;
-    }
+ends_are_ends ps p c cs h = grind (arith, ints)
 
 some_reach : (ps : List Part) (c d : ℤ) → d <ℤ c → Occupied ps d → 0 < reaching_below ps (column_weight c)
 some_reach [] c d l there = absurd there
-some_reach (p ∷ ps) c d l (inl (_, under)) =
-    let low_enough : low p <ℤ column_weight c = omega (arith, ints) in
-    let yes_it_does : lt_z (low p) (column_weight c) ≡ true = grind (arith, ints) in
-    let e : reaching_below (p ∷ ps) (column_weight c) ≡ 1 + reaching_below ps (column_weight c) = ap (λ (b : Bool). cond b 1 0 + reaching_below ps (column_weight c)) yes_it_does in
-    omega arith
+some_reach (p ∷ ps) c d l (inl (_, under)) = grind (arith, ints)
 some_reach (p ∷ ps) c d l (inr there) = let h = some_reach ps c d l there in omega arith
 
 pub columns_reached : ColumnsReached
@@ -45,7 +20,4 @@ columns_reached ps p c None h highest few = tt
 columns_reached ps p c (Some d) h (occupied, below, _) few = (subst (λ (z : ℤ). d <ℤ z) (sym h.at) below, some_reach ps c d below occupied, few)
 
 pub sums_absorbed : SumsAbsorbed
-sums_absorbed ps p q c d t ds regular h down goes absorbed = record {
-  value = absorbed.value ∙ ap (λ (z : ℤ). scale z (drop_between p.column d) +ℤ t) h.value ∙ ap (λ (z : ℤ). scale (sum_down_to ps c).count (drop_between z d) +ℤ t) h.at ∙ sym (goes regular c ds down);
-  at = absorbed.at;
-}
+sums_absorbed ps p q c d t ds regular h down goes absorbed = grind (arith, ints, goes regular c ds down)

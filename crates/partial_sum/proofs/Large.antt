@@ -1,10 +1,9 @@
 -- A full window is so large that what it is decides how every number next to it rounds.
-use Rattle.std.proofs.Common.{◌≡◌, ℕ, zero, suc, ◌+◌, ◌*◌, ◌^◌, ◌<◌, ◌≤◌, Bool, true, false, List, [], ◌∷◌, length, get_or, take, drop, ℤ, pos, ◌+ℤ◌, nat_abs, sym, refl, ap, ◌∙◌, subst, ⊎_elim, lt_of_lt_of_le, mul-le-mul_right, lt_of_not-le, not-le_of_lt, arith, pow_mono, pow-add}
+use Rattle.std.proofs.Common.{◌≡◌, ℕ, zero, suc, ◌+◌, ◌*◌, ◌^◌, ◌<◌, ◌≤◌, Bool, true, List, [], ◌∷◌, length, get_or, take, drop, ℤ, pos, ◌+ℤ◌, nat_abs, sym, refl, ap, ◌∙◌, subst, lt_of_lt_of_le, mul-le-mul_right, lt_of_not-le, not-le_of_lt, arith, pow_mono, pow-add}
 use lib.Ieee.{size}
 use lib.Ieee.Digits.{size-lt}
 use borrow.Author.Differences.{ints}
 use Rattle.std.proofs.lemmas.List.{drop_more, length-take-le, get_or-take}
-use Rattle.std.proofs.lemmas.Bool.{cases_lt}
 use Rattle.exact.specs.Integers.{scale}
 use Rattle.exact.proofs.Scaling.{scale_none, scale_scale, scale_abs}
 use Rattle.exact.proofs.LimbBits.{pow_next_limb}
@@ -34,11 +33,7 @@ value_parts (suc i) (t ∷ ts) h =
 
 -- what is less than 2 ^ 12 units of 2 ^ k, beside 2 ^ 32 such units or more
 far_from_none : (k : ℕ) (low high : ℤ) → 50 ≤ k → 4294967295 * nat_abs low + 2 ^ 43 ≤ 2 ^ 43 * 2 ^ k → 2 ^ 32 ≤ nat_abs high → 2 ^ 31 * 2 ^ k + 2 ^ 50 ≤ nat_abs (low +ℤ scale high k)
-far_from_none k low high deep small large =
-    let big : 2 ^ 50 ≤ 2 ^ k = pow_mono deep in
-    let scaled = scale_abs high k in
-    let up = mul-le-mul_right (2 ^ k) large in
-    omega (arith, ints)
+far_from_none k low high deep small large = omega (arith, ints, pow_mono deep, scale_abs high k, mul-le-mul_right (2 ^ k) large)
 
 -- the two highest totals of a window that is longer
 pub top_large : (p : PartialSum) → p.from < 129 → 2 ^ 32 ≤ nat_abs (totals_value (drop 128 p.totals))
@@ -47,10 +42,7 @@ top_large p long =
     let top : totals_value (drop 129 p.totals) ≡ head p = head_alone p.totals p.whole in
     let some = p.sound.shaped.head_some long in
     let second = p.sound.all_totals 128 (omega arith) in
-    ⊎_elim
-    (λ (small : nat_abs (head p) < 2 ^ 20). (let none = p.sound.shaped.head_large long small in omega (arith, ints)))
-    (λ (large : 2 ^ 20 ≤ nat_abs (head p)). omega (arith, ints))
-    (cases_lt (nat_abs (head p)) (2 ^ 20))
+    grind (arith, ints, p.sound.shaped.head_large long)
 
 pub window_large : (p : PartialSum) (k : ℕ) → p.from ≡ 0 → k ≡ 32 * 128 → 2 ^ 31 * 2 ^ k + 2 ^ 50 ≤ nat_abs (window p)
 window_large p k full e =
@@ -71,8 +63,7 @@ long_enough n k h =
     omega arith
 
 meant_large : (s : Bool) (n k : ℕ) (a v : ℤ) → nat_abs a ≤ 2 ^ 44 → 2 ^ 31 * 2 ^ k + 2 ^ 50 ≤ nat_abs v → Meant s true n (v +ℤ a) → 2 ^ 31 * 2 ^ k ≤ n
-meant_large false n k a v few large e = omega (arith, ints)
-meant_large true n k a v few large e = omega (arith, ints)
+meant_large s n k a v h g k1 = grind (arith, ints)
 
 pub magnitude_long : (p : PartialSum) (s : Bool) (n : ℕ) (a : ℤ) → p.from ≡ 0 → nat_abs a ≤ 2 ^ 44 → Meant s true n (window p +ℤ a) → 4128 ≤ size n
 magnitude_long p s n a full few meant = at 4096 refl

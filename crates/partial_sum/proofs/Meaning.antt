@@ -1,36 +1,21 @@
 -- What the sign and the magnitude of an end stand for.
-use Rattle.std.proofs.Common.{◌≡◌, ℕ, zero, suc, ◌+◌, ◌^◌, ◌<◌, Bool, true, false, ℤ, pos, negsuc, ◌+ℤ◌, neg_ℤ, nat_abs, sym, refl, ap, subst, arith}
-use Rattle.std.proofs.lemmas.Bool.{false≢true}
+use Rattle.std.proofs.Common.{◌≡◌, ℕ, ◌+◌, ◌^◌, ◌<◌, Bool, true, false, ℤ, pos, ◌+ℤ◌, neg_ℤ, nat_abs, sym, ap, subst, arith}
 use lib.Ieee.{size}
 use lib.Ieee.Digits.{size-lt}
 use borrow.Author.Differences.{ints}
 use Rattle.exact.specs.Integers.{is_negative}
-use Rattle.exact.specs.Dyadic.{Dyadic, dyadic, ◌<ᴰ◌, ◌≈ᴰ◌}
+use Rattle.exact.specs.Dyadic.{Dyadic, dyadic}
 use Rattle.grid.specs.Rounding.{OnGrid}
 use Rattle.ends.specs.Ends.{StandsFor, Bordered}
 use Rattle.partial_sum.specs.Lying.{Lies}
 use Rattle.partial_sum.specs.Ends.{Meant}
 
-pub meant_plus : (partial : Bool) (v : ℤ) → is_negative v ≡ false → Meant false partial (nat_abs v) v
-meant_plus partial (pos n) e = refl
-meant_plus partial (negsuc n) e = absurd (false≢true (sym e))
-
-pub meant_minus : (v : ℤ) → is_negative v ≡ true → Meant true false (nat_abs v) v
-meant_minus (pos n) e = absurd (false≢true e)
-meant_minus (negsuc n) e = (omega (arith, ints), omega (arith, ints))
-
 pub meant_part : (v : ℤ) → is_negative v ≡ true → Meant true true (nat_abs (v +ℤ pos 1)) v
-meant_part (pos n) e = absurd (false≢true e)
-meant_part (negsuc n) e = omega (arith, ints)
+meant_part v h = grind (arith, ints)
 
 -- each number that lies there is one that the end stands for
 pub stands : (s partial : Bool) (n : ℕ) (v w : ℤ) (x : Dyadic) → Meant s partial n v → Lies partial v w x → StandsFor s partial n w x
-stands false false n v w x e l = subst (λ (z : ℤ). x ≈ᴰ dyadic z w) e l
-stands false true n v w x e (l, g) = (subst (λ (z : ℤ). dyadic z w <ᴰ x) e l, subst (λ (z : ℤ). x <ᴰ dyadic (z +ℤ pos 1) w) e g)
-stands true false n v w x (e, _) l = subst (λ (z : ℤ). x ≈ᴰ dyadic z w) e l
-stands true true n v w x e (l, g) =
-    let next : v +ℤ pos 1 ≡ neg_ℤ (pos n) = omega (arith, ints) in
-    (subst (λ (z : ℤ). dyadic z w <ᴰ x) e l, subst (λ (z : ℤ). x <ᴰ dyadic z w) next g)
+stands s partial n v w x h g = grind (arith, ints)
 
 -- the units on both sides of it
 pub borders : (u : ℤ → ℤ) (s : Bool) (n : ℕ) (v w : ℤ) → Meant s true n v → Bordered u s n w → OnGrid u (dyadic v w) × OnGrid u (dyadic (v +ℤ pos 1) w)
@@ -43,5 +28,4 @@ no_bits n e = let h : n < 2 ^ size n = size-lt n in omega (arith, ap (λ (k : �
 
 pub some_bits : (n : ℕ) → ¬ (size n ≡ 0) → 0 < n
 unfolding size
-some_bits zero h = absurd (h refl)
-some_bits (suc n) h = omega arith
+some_bits n h = grind (arith, ints)

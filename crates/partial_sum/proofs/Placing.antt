@@ -1,27 +1,19 @@
 -- Where a number of units of one column lies among those of a column above.
-use Rattle.std.proofs.Common.{◌≡◌, ℕ, ◌^◌, ◌≤◌, Bool, true, false, ℤ, pos, negsuc, ◌+ℤ◌, ◌-ℤ◌, neg_ℤ, nat_abs, ◌≤ℤ◌, ◌<ℤ◌, sym, refl, ap, ◌∙◌, subst, arith, pow_pos, pow_mono}
+use Rattle.std.proofs.Common.{◌≡◌, ℕ, ◌^◌, Bool, true, false, ℤ, pos, negsuc, ◌+ℤ◌, ◌-ℤ◌, neg_ℤ, ◌≤ℤ◌, ◌<ℤ◌, sym, refl, ap, ◌∙◌, subst, arith, pow_pos}
 use borrow.Author.Differences.{ints}
 use Rattle.exact.specs.Integers.{gap, scale}
 use Rattle.exact.specs.Dyadic.{Dyadic, dyadic, at, ◌≤ᴰ◌, ◌<ᴰ◌, ◌≈ᴰ◌, plus}
-use Rattle.exact.proofs.Scaling.{scale_none, scale_plus, scale_minus, zero_scale, below_three}
+use Rattle.exact.proofs.Scaling.{scale_none, scale_plus, scale_minus, below_three}
 use Rattle.exact.proofs.Order.{at_lt, lt_at, at_le, same_at, <ᴰ_≤ᴰ_trans, ≤ᴰ_of_≈, ≈ᴰ_trans}
 use Rattle.exact.proofs.Sums.{at_plus}
 use Rattle.partial_sum.specs.Lying.{Placed, Lies}
 
 -- ---- less than one unit, on either side of 0
-pub placed_above : (k : ℕ) (n : ℤ) → 64 ≤ k → nat_abs n ≤ 2 ^ 44 → pos 0 <ℤ n → Placed true k n (pos 0)
-placed_above k n high few plus =
-    let big : 2 ^ 64 ≤ 2 ^ k = pow_mono high in
-    let none : scale (pos 0) k ≡ pos 0 = zero_scale k in
-    let one : scale (pos 1) k ≡ pos (2 ^ k) = omega (arith, ints) in
-    (omega (arith, ints), omega (arith, ints))
+pub unit_above : (k : ℕ) (n : ℤ) → pos 0 <ℤ n → n <ℤ pos (2 ^ k) → Placed true k n (pos 0)
+unit_above k n low high = omega (arith, ints)
 
-pub placed_below : (k : ℕ) (n : ℤ) → 64 ≤ k → nat_abs n ≤ 2 ^ 44 → n <ℤ pos 0 → Placed true k n (negsuc 0)
-placed_below k n high few minus =
-    let big : 2 ^ 64 ≤ 2 ^ k = pow_mono high in
-    let none : scale (pos 0) k ≡ pos 0 = zero_scale k in
-    let one : scale (negsuc 0) k ≡ neg_ℤ (pos (2 ^ k)) = omega (arith, ints) in
-    (omega (arith, ints), omega (arith, ints))
+pub unit_below : (k : ℕ) (n : ℤ) → n <ℤ pos 0 → neg_ℤ (pos (2 ^ k)) <ℤ n → Placed true k n (negsuc 0)
+unit_below k n high low = omega (arith, ints)
 
 -- ---- units at two weights
 pub ≤ᴰ_<ᴰ_trans : (x y w : Dyadic) → x ≤ᴰ y → y <ᴰ w → x <ᴰ w
@@ -34,19 +26,19 @@ pub ≤ᴰ_<ᴰ_trans : (x y w : Dyadic) → x ≤ᴰ y → y <ᴰ w → x <ᴰ 
 -- v units of a weight above, compared with m units of w
 module _ (v m w h : ℤ) (le : w ≤ℤ h) where
   above_lt : scale v (gap h w) <ℤ m → dyadic v h <ᴰ dyadic m w
-  above_lt l = let z : gap w h ≡ 0 = omega (arith, ints) in subst (λ (k : ℕ). scale v (gap h w) <ℤ scale m k) (sym z) (subst (λ (n : ℤ). scale v (gap h w) <ℤ n) (sym (scale_none m)) l)
+  above_lt l = grind (arith, ints)
 
   lt_above : m <ℤ scale v (gap h w) → dyadic m w <ᴰ dyadic v h
-  lt_above l = let z : gap w h ≡ 0 = omega (arith, ints) in subst (λ (k : ℕ). scale m k <ℤ scale v (gap h w)) (sym z) (subst (λ (n : ℤ). n <ℤ scale v (gap h w)) (sym (scale_none m)) l)
+  lt_above l = grind (arith, ints)
 
   above_le : scale v (gap h w) ≤ℤ m → dyadic v h ≤ᴰ dyadic m w
-  above_le l = let z : gap w h ≡ 0 = omega (arith, ints) in subst (λ (k : ℕ). scale v (gap h w) ≤ℤ scale m k) (sym z) (subst (λ (n : ℤ). scale v (gap h w) ≤ℤ n) (sym (scale_none m)) l)
+  above_le l = grind (arith, ints)
 
   le_above : m ≤ℤ scale v (gap h w) → dyadic m w ≤ᴰ dyadic v h
-  le_above l = let z : gap w h ≡ 0 = omega (arith, ints) in subst (λ (k : ℕ). scale m k ≤ℤ scale v (gap h w)) (sym z) (subst (λ (n : ℤ). n ≤ℤ scale v (gap h w)) (sym (scale_none m)) l)
+  le_above l = grind (arith, ints)
 
   same_above : m ≡ scale v (gap h w) → dyadic m w ≈ᴰ dyadic v h
-  same_above e = let z : gap w h ≡ 0 = omega (arith, ints) in subst (λ (k : ℕ). scale m k ≡ scale v (gap h w)) (sym z) (scale_none m ∙ e)
+  same_above e = grind (arith, ints)
 
 -- a window of W units of the weight h, and n units of the weight w besides
 pub lies_from : (partial : Bool) (W n v w h : ℤ) → w ≤ℤ h → Placed partial (gap h w) n v → Lies partial (W +ℤ v) h (dyadic (scale W (gap h w) +ℤ n) w)
@@ -93,12 +85,12 @@ lies_same true v w x y e (l, g) = (<ᴰ_≤ᴰ_trans (dyadic v w) y x l (≤ᴰ_
 -- p units of w and n units of a weight v, on either side
 module _ (p n w v : ℤ) (low : v ≤ℤ w) where
   at_both : at v (plus (dyadic p w) (dyadic n v)) ≡ scale p (gap w v) +ℤ n
-  at_both = at_plus v (dyadic p w) (dyadic n v) low (omega (arith, ints)) ∙ ap (λ (z : ℤ). scale p (gap w v) +ℤ z) (let z : gap v v ≡ 0 = omega (arith, ints) in ap (scale n) z ∙ scale_none n)
+  at_both = at_plus v (dyadic p w) (dyadic n v) low (omega (arith, ints)) ∙ ap (λ (z : ℤ). scale p (gap w v) +ℤ z) (let e : scale n (gap v v) ≡ n = grind (arith, ints) in e)
 
   -- where the weights are the same
   pub sum_same : w ≡ v → plus (dyadic p w) (dyadic n v) ≈ᴰ dyadic (p +ℤ n) w
   sum_same e = same_at v (plus (dyadic p w) (dyadic n v)) (dyadic (p +ℤ n) w) (omega (arith, ints)) low
-      (at_both ∙ (let z : gap w v ≡ 0 = omega (arith, ints) in let a : scale p (gap w v) ≡ p = ap (scale p) z ∙ scale_none p in let b : scale (p +ℤ n) (gap w v) ≡ p +ℤ n = ap (scale (p +ℤ n)) z ∙ scale_none (p +ℤ n) in omega (arith, ints)))
+      (at_both ∙ (let z : gap w v ≡ 0 = omega (arith, ints) in rw z (omega (arith, ints, scale_none p, scale_none (p +ℤ n)))))
 
   -- where the little is more than 0 and less than one unit of w
   pub sum_above : pos 0 <ℤ n → n <ℤ pos (2 ^ gap w v) → (dyadic p w <ᴰ plus (dyadic p w) (dyadic n v)) × (plus (dyadic p w) (dyadic n v) <ᴰ dyadic (p +ℤ pos 1) w)
@@ -130,18 +122,10 @@ module _ (p n w v : ℤ) (low : v ≤ℤ w) where
 
 -- ---- multiples of one unit
 pub unit_lt : (a b w : ℤ) → dyadic a w <ᴰ dyadic b w → a <ℤ b
-unit_lt a b w l =
-    let z : gap w w ≡ 0 = omega (arith, ints) in
-    let x : scale a (gap w w) ≡ a = ap (scale a) z ∙ scale_none a in
-    let y : scale b (gap w w) ≡ b = ap (scale b) z ∙ scale_none b in
-    omega (arith, ints)
+unit_lt a b w l = grind (arith, ints)
 
 pub unit_le : (a b w : ℤ) → a ≤ℤ b → dyadic a w ≤ᴰ dyadic b w
-unit_le a b w l =
-    let z : gap w w ≡ 0 = omega (arith, ints) in
-    let x : scale a (gap w w) ≡ a = ap (scale a) z ∙ scale_none a in
-    let y : scale b (gap w w) ≡ b = ap (scale b) z ∙ scale_none b in
-    omega (arith, ints)
+unit_le a b w l = grind (arith, ints)
 
 pub <ᴰ_trans : (x y z : Dyadic) → x <ᴰ y → y <ᴰ z → x <ᴰ z
 <ᴰ_trans x y z l g = ≤ᴰ_<ᴰ_trans x y z (<ᴰ_weaker x y l) g

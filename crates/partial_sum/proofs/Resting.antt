@@ -1,11 +1,9 @@
 -- Where the ends of a full window differ, the rest below it is small.
-use Rattle.std.proofs.Common.{◌≡◌, ℕ, ◌+◌, ◌^◌, ◌<◌, ◌≤◌, Bool, true, false, ℤ, pos, negsuc, ◌+ℤ◌, ◌-ℤ◌, neg_ℤ, nat_abs, ◌≤ℤ◌, ◌<ℤ◌, Some, sym, refl, ap, ◌∙◌, ⊎_elim, arith, pow_mono}
+use Rattle.std.proofs.Common.{◌≡◌, ℕ, ◌+◌, ◌^◌, ◌<◌, ◌≤◌, Bool, true, ℤ, pos, negsuc, ◌+ℤ◌, ◌-ℤ◌, neg_ℤ, nat_abs, ◌≤ℤ◌, ◌<ℤ◌, Some, refl, ⊎_elim, arith, pow_mono}
 use borrow.Author.Differences.{ints}
 use Rattle.std.proofs.lemmas.Int.{by_lt_z}
 use Rattle.std.proofs.lemmas.Bool.{cases_lt}
-use Rattle.exact.specs.Integers.{scale}
 use Rattle.exact.specs.Dyadic.{Dyadic}
-use Rattle.exact.proofs.Scaling.{zero_scale}
 use Rattle.batch.specs.Term.{column_weight}
 use Rattle.partial_sum.specs.Lying.{Placed}
 use Rattle.partial_sum.specs.Limits.{drop_between}
@@ -13,41 +11,21 @@ use Rattle.partial_sum.specs.Holding.{window}
 use Rattle.partial_sum.specs.Ends.{lower_number, upper_number, LiesAt, Reached}
 use Rattle.partial_sum.specs.declared.sum.PartialSum.{PartialSum}
 use Rattle.partial_sum.specs.declared.end.WindowEnd.{WindowEnd}
-use Rattle.partial_sum.proofs.Placing.{lies_once}
-use Rattle.partial_sum.proofs.Ending.{next_lower, next_upper, gap_lower, gap_upper}
-
--- strictly between 0 and one unit, or between minus one unit and 0
-unit_above : (k : ℕ) (n : ℤ) → pos 0 <ℤ n → n <ℤ pos (2 ^ k) → Placed true k n (pos 0)
-unit_above k n low high =
-    let none : scale (pos 0) k ≡ pos 0 = zero_scale k in
-    let one : scale (pos 1) k ≡ pos (2 ^ k) = omega (arith, ints) in
-    (omega (arith, ints), omega (arith, ints))
-
-unit_below : (k : ℕ) (n : ℤ) → n <ℤ pos 0 → neg_ℤ (pos (2 ^ k)) <ℤ n → Placed true k n (negsuc 0)
-unit_below k n high low =
-    let none : scale (pos 0) k ≡ pos 0 = zero_scale k in
-    let one : scale (negsuc 0) k ≡ neg_ℤ (pos (2 ^ k)) = omega (arith, ints) in
-    (omega (arith, ints), omega (arith, ints))
+use Rattle.partial_sum.proofs.Placing.{unit_above, unit_below, lies_once}
+use Rattle.partial_sum.proofs.Ending.{in_column, gap_lower, gap_upper}
 
 -- just above 0, or there
 at_or_above : (k : ℕ) (n : ℤ) → pos 0 ≤ℤ n → n <ℤ pos (2 ^ k) → (b : Bool) × Placed b k n (pos 0)
-at_or_above k n low high = by_lt_z (pos 0) n (λ l. (true, unit_above k n l high)) (λ l. (false, (let z : n ≡ pos 0 = omega (arith, ints) in z ∙ sym (zero_scale k))))
+at_or_above k n low high = grind (arith, ints)
 
 abbrev end_at : ℤ → WindowEnd
 end_at v = record { offset = v; partial = true }
-
-same_end : (e f : WindowEnd) → e.partial ≡ f.partial → e.offset ≡ f.offset → e ≡ f
-same_end e f p o =
-    let of : ℤ → Bool → WindowEnd = λ v b. record { offset = v; partial = b } in
-    ap (of e.offset) p ∙ ap (λ (v : ℤ). of v f.partial) o
 
 same_unit : (p : PartialSum) (e f : WindowEnd) (v : ℤ) (x y : Dyadic) → LiesAt p e x → LiesAt p f y → LiesAt p (end_at v) x → LiesAt p (end_at v) y → e ≡ f
 same_unit p e f v x y le lf lx ly =
     let a = lies_once e.partial (window p +ℤ e.offset) (window p +ℤ v) (column_weight p.lowest) x le lx in
     let b = lies_once f.partial (window p +ℤ f.offset) (window p +ℤ v) (column_weight p.lowest) y lf ly in
-    let i = a.1 in
-    let j = b.1 in
-    same_end e f (a.0 ∙ sym b.0) (omega (arith, ints))
+    grind (arith, ints)
 
 -- the rest and what can still come are less than a unit of the window's lowest column
 less_than_window : (p : PartialSum) (n : ℕ) → p.column <ℤ p.lowest → n ≤ 1024 → nat_abs p.rest + n + 1 < 2 ^ drop_between p.lowest p.column
@@ -95,10 +73,10 @@ module _ (p : PartialSum) (n : ℕ) (d : ℤ) (closed : p.column <ℤ p.lowest) 
       (let next : d +ℤ pos 1 ≡ p.column = omega (arith, ints) in
       by_lt_z p.rest (pos 0)
       (λ minus. absurd (differ (same_unit p e f (negsuc 0) x y lower upper
-      (next_lower p (end_at (negsuc 0)) n d a next (unit_below (drop_between p.lowest p.column) a (omega (arith, ints)) (omega (arith, ints))) refl)
-      (next_upper p (end_at (negsuc 0)) n d b next (unit_below (drop_between p.lowest p.column) b (omega (arith, ints)) (omega (arith, ints))) refl))))
+      (in_column p (end_at (negsuc 0)) (neg_ℤ (pos n)) (d +ℤ pos 1) a next (unit_below (drop_between p.lowest p.column) a (omega (arith, ints)) (omega (arith, ints))) refl)
+      (in_column p (end_at (negsuc 0)) (pos n) (d +ℤ pos 1) b next (unit_below (drop_between p.lowest p.column) b (omega (arith, ints)) (omega (arith, ints))) refl))))
       (λ plus. absurd (differ (same_unit p e f (pos 0) x y lower upper
-      (next_lower p (end_at (pos 0)) n d a next (unit_above (drop_between p.lowest p.column) a (omega (arith, ints)) (omega (arith, ints))) refl)
-      (next_upper p (end_at (pos 0)) n d b next (unit_above (drop_between p.lowest p.column) b (omega (arith, ints)) (omega (arith, ints))) refl)))))))
+      (in_column p (end_at (pos 0)) (neg_ℤ (pos n)) (d +ℤ pos 1) a next (unit_above (drop_between p.lowest p.column) a (omega (arith, ints)) (omega (arith, ints))) refl)
+      (in_column p (end_at (pos 0)) (pos n) (d +ℤ pos 1) b next (unit_above (drop_between p.lowest p.column) b (omega (arith, ints)) (omega (arith, ints))) refl)))))))
       (λ (small : nat_abs p.rest ≤ n). omega arith)
       (cases_lt n (nat_abs p.rest))

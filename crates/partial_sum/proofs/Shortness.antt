@@ -26,10 +26,7 @@ use Rattle.partial_sum.proofs.Deciding.{rises_far, lower_less, upper_more, whole
 -- ---- how long a window can be
 -- the head and j totals below it are less than 2 ^ 53 units of the head
 within : (p : PartialSum) → (j i : ℕ) → i + j ≡ 129 → nat_abs (totals_value (drop i p.totals)) + 2 ^ 12 ≤ 2 ^ 53 * 2 ^ (32 * j)
-within p zero i e =
-    let at : totals_value (drop i p.totals) ≡ head p = ap (λ (k : ℕ). totals_value (drop k p.totals)) (let f : i ≡ 129 = omega arith in f) ∙ head_alone p.totals p.whole in
-    let small = p.sound.shaped.head_small in
-    omega (arith, ints)
+within p zero i e = grind (arith, ints, head_alone p.totals p.whole)
 within p (suc j) i e =
     let above = within p j (i + 1) (omega arith) in
     let value : totals_value (drop i p.totals) ≡ slot p i +ℤ scale (totals_value (drop (i + 1) p.totals)) 32 = ap totals_value (drop_more p.totals i (pos 0) (omega (arith, p.whole))) ∙ value_below (slot p i) (drop (i + 1) p.totals) in

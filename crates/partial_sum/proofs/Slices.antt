@@ -1,8 +1,8 @@
 -- The window with its lowest total changed, as it is settled.
-use Rattle.std.proofs.Common.{◌≡◌, ℕ, suc, ◌+◌, ◌-◌, ◌*◌, ◌^◌, ◌<◌, ◌≤◌, ◌≢◌, List, [], ◌∷◌, ◌++◌, length, get_or, take, drop, set, ℤ, pos, ◌+ℤ◌, nat_abs, sym, ap, ◌∙◌, subst, ⊎_elim, arith, length-set, get_or-set_other, get_or-set_same}
+use Rattle.std.proofs.Common.{◌≡◌, ℕ, suc, ◌+◌, ◌-◌, ◌*◌, ◌^◌, ◌<◌, ◌≤◌, List, [], ◌++◌, length, take, drop, set, ℤ, ◌+ℤ◌, nat_abs, ap, ◌∙◌, arith}
+use Rattle.std.proofs.lemmas.Grind.{common_steps}
 use borrow.Author.Differences.{ints}
-use Rattle.std.proofs.lemmas.List.{take_rest, get_or-drop, length-drop, length-append, set_split, take_at, drop_all}
-use Rattle.std.proofs.lemmas.Bool.{cases_lt, cases_eq}
+use Rattle.std.proofs.lemmas.List.{set_split, take_at, drop_all}
 use Rattle.exact.specs.Limbs.{limbs_value}
 use Rattle.exact.proofs.LimbSteps.{value_push}
 use Rattle.totals.specs.Totals.{totals_value, SmallTotals}
@@ -12,40 +12,20 @@ use Rattle.partial_sum.proofs.Windows.{value_changed}
 
 -- the slice of the totals from a slot on
 pub from_slot : (p : PartialSum) (v : ℤ) → take (130 - p.from) (drop p.from (set p.totals p.from v)) ≡ drop p.from (set p.totals p.from v)
-from_slot p v =
-    let long : length (set p.totals p.from v) ≡ 130 = length-set p.totals p.from v ∙ p.whole in
-    subst (λ (n : ℕ). take (n - p.from) (drop p.from (set p.totals p.from v)) ≡ drop p.from (set p.totals p.from v)) long (take_rest (set p.totals p.from v) p.from)
+from_slot p v = grind (arith, ints, common_steps)
 
 pub slice_length : (p : PartialSum) (v : ℤ) → length (take (130 - p.from) (drop p.from (set p.totals p.from v))) ≡ 130 - p.from
-slice_length p v = ap length (from_slot p v) ∙ length-drop p.from (set p.totals p.from v) ∙ ap (λ (n : ℕ). n - p.from) (length-set p.totals p.from v ∙ p.whole)
+slice_length p v = grind (arith, ints, common_steps)
 
 pub slice_value : (p : PartialSum) (a v : ℤ) → v ≡ slot p p.from +ℤ a → totals_value (take (130 - p.from) (drop p.from (set p.totals p.from v))) ≡ window p +ℤ a
 slice_value p a v e = ap totals_value (from_slot p v) ∙ value_changed p.totals p.from a v (omega (arith, p.whole, p.used)) e
 
 pub slot_small : (p : PartialSum) → (k : ℕ) → k < 130 → nat_abs (slot p k) ≤ 2 ^ 52 + 2 ^ 42
-slot_small p k l = ⊎_elim (λ (i : k < 129). (let h = p.sound.all_totals k i in omega arith)) (λ (i : 129 ≤ k). subst (λ (j : ℕ). nat_abs (slot p j) ≤ 2 ^ 52 + 2 ^ 42) (let e : 129 ≡ k = omega arith in e) p.sound.shaped.head_small) (cases_lt k 129)
+slot_small p k l = grind (arith, ints)
 
 pub slice_small : (p : PartialSum) (a v : ℤ) → nat_abs a ≤ 2 ^ 45 → v ≡ slot p p.from +ℤ a → SmallTotals (take (130 - p.from) (drop p.from (set p.totals p.from v)))
-slice_small p a v few e k l =
-    let long = slice_length p v in
-    let inside : p.from + k < 130 = omega (arith, p.used) in
-    let at : get_or (take (130 - p.from) (drop p.from (set p.totals p.from v))) k (pos 0) ≡ get_or (set p.totals p.from v) (p.from + k) (pos 0) =
-    ap (λ (l : List ℤ). get_or l k (pos 0)) (from_slot p v) ∙ get_or-drop p.from (set p.totals p.from v) k (pos 0) in
-    subst (λ (z : ℤ). nat_abs z < 2 ^ 53) (sym at) (⊎_elim
-    (λ (same : p.from + k ≡ p.from).
-    (let w : get_or (set p.totals p.from v) (p.from + k) (pos 0) ≡ v = ap (λ (j : ℕ). get_or (set p.totals p.from v) j (pos 0)) same ∙ get_or-set_same p.totals p.from v (pos 0) (omega (arith, p.whole, p.used)) in
-    let h = slot_small p p.from p.used in omega (arith, ints)))
-    (λ (ne : p.from + k ≢ p.from).
-    (let w : get_or (set p.totals p.from v) (p.from + k) (pos 0) ≡ slot p (p.from + k) = get_or-set_other p.totals p.from (p.from + k) v (pos 0) ne in
-    let h = slot_small p (p.from + k) inside in omega (arith, ints)))
-    (cases_eq (p.from + k) p.from))
+slice_small p a v few e k l = grind (arith, ints, common_steps, slot_small p (p.from + k), from_slot p v, slice_length p v, p.used, p.whole)
 
 -- ---- the limb above
 pub top_written : (xs ys : List ℕ) (n t : ℕ) → length xs ≡ n → length ys ≡ 1 → limbs_value (set (xs ++ ys) n t) ≡ t * 2 ^ (32 * n) + limbs_value xs
-top_written xs ys n t low one =
-    let long : length (xs ++ ys) ≡ n + 1 = length-append xs ys ∙ omega arith in
-    let split : set (xs ++ ys) n t ≡ take n (xs ++ ys) ++ t ∷ drop (suc n) (xs ++ ys) = set_split (xs ++ ys) n t (omega arith) in
-    let front : take n (xs ++ ys) ≡ xs = take_at xs ys n low in
-    let back : drop (suc n) (xs ++ ys) ≡ [] = drop_all (suc n) (xs ++ ys) (omega arith) in
-    ap limbs_value (split ∙ ap (λ (l : List ℕ). l ++ t ∷ drop (suc n) (xs ++ ys)) front ∙ ap (λ (l : List ℕ). xs ++ t ∷ l) back)
-    ∙ value_push xs t ∙ ap (λ (k : ℕ). limbs_value xs + t * 2 ^ (32 * k)) low ∙ omega arith
+top_written xs ys n t low one = grind (arith, common_steps, set_split (xs ++ ys) n t, take_at xs ys n low, drop_all (suc n) (xs ++ ys), value_push xs t)

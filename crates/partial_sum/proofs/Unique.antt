@@ -1,20 +1,18 @@
 -- An answer's limbs, exponent and precision are determined by what number it is.
-use Rattle.std.proofs.Common.{◌≡◌, ℕ, zero, suc, ◌+◌, ◌-◌, ◌*◌, ◌^◌, ◌<◌, ◌≤◌, Bool, ℤ, pos, ◌+ℤ◌, ◌-ℤ◌, nat_abs, Some, None, Option, sym, refl, ap, ◌∙◌, subst, mul-pos, pow-suc, arith, pow_pos}
+use Rattle.std.proofs.Common.{◌≡◌, ℕ, zero, suc, ◌+◌, ◌-◌, ◌*◌, ◌^◌, ◌<◌, ◌≤◌, Bool, ℤ, pos, ◌+ℤ◌, ◌-ℤ◌, nat_abs, Some, None, Option, sym, refl, ap, ◌∙◌, subst, mul-pos, arith, pow_pos}
 use lib.Ieee.{size}
 use borrow.Author.Differences.{ints}
-use Rattle.exact.specs.Integers.{gap, scale, signed}
+use Rattle.exact.specs.Integers.{signed}
 use Rattle.exact.specs.Dyadic.{Dyadic, dyadic, ◌≈ᴰ◌, Nonzero, exponent}
 use Rattle.exact.proofs.Signed.{abs_signed}
-use Rattle.exact.proofs.Scaling.{scale_none}
 use Rattle.exact.proofs.BitLength.{size_is, size_scale}
 use Rattle.exact.proofs.Order.{≈ᴰ_sym, ≈ᴰ_trans}
 use Rattle.exact.proofs.Exponents.{exponent_≈, nonzero_≈}
 use Rattle.grid.specs.Rounding.{Mode, rounded, Alike}
 use Rattle.limbs.specs.Bits.{limbs_for}
 use Rattle.ends.specs.Directions.{direction_sign}
-use Rattle.ends.specs.Outcome.{RoundsAs, Placed, Written, number_told}
+use Rattle.ends.specs.Outcome.{Placed, Written, number_told}
 use Rattle.ends.specs.declared.direction.Direction.{Direction}
-use Rattle.ends.specs.declared.direction.Direction.TheVariants.{Below, Exact, Above}
 use Rattle.ends.specs.declared.rounded_end.Extent.{Extent}
 use Rattle.ends.specs.declared.rounded_end.RoundedEnd.{RoundedEnd}
 use Rattle.partial_sum.specs.Lying.{Lies}
@@ -26,20 +24,13 @@ last_weight e p = e -ℤ pos (32 * limbs_for p)
 
 top_bit : (n p : ℕ) → n < 2 ^ p → 2 ^ p ≤ 2 * n → (size n ≡ p) × (0 < n)
 top_bit n zero l g = absurd (omega arith)
-top_bit n (suc q) l g =
-    let e : 2 ^ suc q ≡ 2 ^ q * 2 = pow-suc 2 q in
-    let some = pow_pos q in
-    (size_is n q (omega arith) l, omega arith)
-
-room : (p : ℕ) → p ≤ 32 * limbs_for p
-room p = omega arith
+top_bit n (suc q) l g = grind (arith, size_is n q)
 
 module _ (u : ℤ → ℤ) (e : ℤ) (p a : ℕ) (s : Bool) (d : Placed u e p a) where
   placed_size : (size a ≡ 32 * limbs_for p) × (0 < a)
   placed_size =
       let t = top_bit d.significand p d.below d.above in
       let k = 32 * limbs_for p - p in
-      let r = room p in
       let long : size a ≡ p + k = ap size d.is ∙ size_scale d.significand k t.1 ∙ ap (λ (n : ℕ). n + k) t.0 in
       (long ∙ omega arith, subst (λ (n : ℕ). 0 < n) (sym d.is) (mul-pos t.1 (pow_pos k)))
 
@@ -60,38 +51,18 @@ module _ (u : ℤ → ℤ) (e f : ℤ) (p q a b : ℕ) (s : Bool) (d : Placed u 
   same_precision = let x = d.precise in let y = g.precise in let i = same_exponent in let j : u e ≡ u f = ap u i in omega (arith, ints)
 
   pub same_limbs : a ≡ b
-  same_limbs =
-      let v = last_weight e p in
-      let w = last_weight f q in
-      let i = same_exponent in
-      let at : v ≡ w = ap (λ (z : ℤ). last_weight z p) i ∙ ap (last_weight f) same_precision in
-      let x : gap v w ≡ 0 = omega (arith, ints) in
-      let y : gap w v ≡ 0 = omega (arith, ints) in
-      let counts : signed s a ≡ signed s b = sym (scale_none (signed s a)) ∙ ap (scale (signed s a)) (sym x) ∙ same ∙ ap (scale (signed s b)) y ∙ scale_none (signed s b) in
-      sym (abs_signed s a) ∙ ap nat_abs counts ∙ abs_signed s b
+  same_limbs = let i = same_exponent in let j = same_precision in grind (arith, ints, abs_signed s a, abs_signed s b)
 
 signs_apart : (d e : Direction) → direction_sign d ≡ direction_sign e → d ≡ e
-signs_apart Below Below h = refl
-signs_apart Below Exact h = absurd (omega (arith, ints))
-signs_apart Below Above h = absurd (omega (arith, ints))
-signs_apart Exact Below h = absurd (omega (arith, ints))
-signs_apart Exact Exact h = refl
-signs_apart Exact Above h = absurd (omega (arith, ints))
-signs_apart Above Below h = absurd (omega (arith, ints))
-signs_apart Above Exact h = absurd (omega (arith, ints))
-signs_apart Above Above h = refl
+signs_apart d e h = grind (arith, ints)
 
 -- ---- two answers
 
 same_extent : (x y : Extent) → x.exponent ≡ y.exponent → x.precision ≡ y.precision → x ≡ y
-same_extent x y e p =
-    let of : ℤ → ℕ → Extent = λ f q. record { exponent = f; precision = q } in
-    ap (λ (f : ℤ). of f x.precision) e ∙ ap (of y.exponent) p
+same_extent x y e p = grind (arith, ints)
 
 same_answer : (r q : RoundedEnd) → r.negative ≡ q.negative → r.direction ≡ q.direction → r.extent ≡ q.extent → r ≡ q
-same_answer r q n d x =
-    let of : Bool → Direction → Option Extent → RoundedEnd = λ s t y. record { negative = s; direction = t; extent = y } in
-    ap (λ (s : Bool). of s r.direction r.extent) n ∙ ap (λ (t : Direction). of q.negative t r.extent) d ∙ ap (of q.negative q.direction) x
+same_answer r q n d x = grind (arith, ints)
 
 -- a number determines the extent and the limbs that it is told by
 same_told : (u : ℤ → ℤ) (s : Bool) (x y : Option Extent) (k l : ℕ) → Written u x k → Written u y l → number_told s x k ≈ᴰ number_told s y l → (x ≡ y) × (k ≡ l)
@@ -108,16 +79,10 @@ abbrev told : RoundedEnd → ℕ → Dyadic
 told r k = number_told r.negative r.extent k
 
 module _ (u : ℤ → ℤ) (m : Mode) (b c : Bool) (v w z : ℤ) (r q : RoundedEnd) (k l : ℕ) (x y : Dyadic) (one : Certain u m b v z r k) (two : Certain u m c w z q l) (here : Lies b v z x) (there : Lies c w z y) where
-  rounds_one : RoundsAs u m x r.negative r.extent k (direction_sign r.direction)
-  rounds_one = one.rounds x here
-
-  rounds_two : RoundsAs u m y q.negative q.extent l (direction_sign q.direction)
-  rounds_two = two.rounds y there
-
   pub same_from_alike : Alike (rounded u m x) (rounded u m y) → (r ≡ q) × (k ≡ l)
   same_from_alike alike =
-      let i = rounds_one in
-      let j = rounds_two in
+      let i = one.rounds x here in
+      let j = two.rounds y there in
       let signs : r.negative ≡ q.negative = sym i.signs ∙ alike.signs ∙ j.signs in
       let values : told r k ≈ᴰ told q l =
       ≈ᴰ_trans (told r k) (rounded u m x).value (told q l) (≈ᴰ_sym (rounded u m x).value (told r k) i.values) (≈ᴰ_trans (rounded u m x).value (rounded u m y).value (told q l) alike.values j.values) in
@@ -126,8 +91,8 @@ module _ (u : ℤ → ℤ) (m : Mode) (b c : Bool) (v w z : ℤ) (r q : RoundedE
 
   pub alike_from_same : r ≡ q → k ≡ l → Alike (rounded u m x) (rounded u m y)
   alike_from_same fields limbs =
-      let i = rounds_one in
-      let j = rounds_two in
+      let i = one.rounds x here in
+      let j = two.rounds y there in
       let values : told r k ≡ told q l = ap (λ (e : RoundedEnd). told e k) fields ∙ ap (told q) limbs in
       record {
         values = ≈ᴰ_trans (rounded u m x).value (told q l) (rounded u m y).value (subst (λ (t : Dyadic). (rounded u m x).value ≈ᴰ t) values i.values) (≈ᴰ_sym (rounded u m y).value (told q l) j.values);

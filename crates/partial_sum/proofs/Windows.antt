@@ -1,7 +1,8 @@
 -- Windows of totals: one total written, zeros below.
 use Rattle.std.proofs.Common.{◌≡◌, ℕ, zero, suc, ◌+◌, ◌*◌, ◌<◌, ◌≤◌, List, ◌∷◌, length, get_or, drop, set, ℤ, pos, ◌+ℤ◌, sym, ap, ◌∙◌, arith}
+use Rattle.std.proofs.lemmas.Grind.{common_steps}
 use borrow.Author.Differences.{ints}
-use Rattle.std.proofs.lemmas.List.{drop-set, drop_more}
+use Rattle.std.proofs.lemmas.List.{drop_more}
 use Rattle.exact.specs.Integers.{scale}
 use Rattle.exact.proofs.Scaling.{scale_none, scale_scale}
 use Rattle.totals.specs.Totals.{totals_value}
@@ -12,21 +13,9 @@ value_below t ts = omega (arith, ints)
 
 -- a total changed by a
 pub value_changed : (ts : List ℤ) (i : ℕ) (a v : ℤ) → i < length ts → v ≡ get_or ts i (pos 0) +ℤ a → totals_value (drop i (set ts i v)) ≡ totals_value (drop i ts) +ℤ a
-value_changed ts i a v inside e =
-    let new : totals_value (drop i (set ts i v)) ≡ v +ℤ scale (totals_value (drop (i + 1) ts)) 32 = ap totals_value (drop-set ts i v inside) ∙ value_below v (drop (i + 1) ts) in
-    let old : totals_value (drop i ts) ≡ get_or ts i (pos 0) +ℤ scale (totals_value (drop (i + 1) ts)) 32 = ap totals_value (drop_more ts i (pos 0) inside) ∙ value_below (get_or ts i (pos 0)) (drop (i + 1) ts) in
-    omega (arith, ints)
+value_changed ts i a v inside e = grind (arith, ints, common_steps)
 
 -- zeros below
 pub value_zeros : (ts : List ℤ) (i j : ℕ) → i + j ≤ length ts → ((k : ℕ) → k < i + j → get_or ts k (pos 0) ≡ pos 0) → totals_value (drop i ts) ≡ scale (totals_value (drop (i + j) ts)) (32 * j)
 value_zeros ts i zero inside none = ap (λ (k : ℕ). totals_value (drop k ts)) (let e : i ≡ i + 0 = omega arith in e) ∙ sym (scale_none (totals_value (drop (i + 0) ts)))
-value_zeros ts i (suc j) inside none =
-    let lt : i < length ts = omega arith in
-    let here : get_or ts i (pos 0) ≡ pos 0 = none i (omega arith) in
-    let e : i + suc j ≡ i + 1 + j = omega arith in
-    let step : totals_value (drop i ts) ≡ get_or ts i (pos 0) +ℤ scale (totals_value (drop (i + 1) ts)) 32 = ap totals_value (drop_more ts i (pos 0) lt) ∙ value_below (get_or ts i (pos 0)) (drop (i + 1) ts) in
-    let above : totals_value (drop (i + 1) ts) ≡ scale (totals_value (drop (i + 1 + j) ts)) (32 * j) = value_zeros ts (i + 1) j (omega arith) (λ k l. none k (omega arith)) in
-    let first : totals_value (drop i ts) ≡ scale (totals_value (drop (i + 1) ts)) 32 = omega (arith, ints) in
-    first ∙ ap (λ (z : ℤ). scale z 32) above ∙ scale_scale (totals_value (drop (i + 1 + j) ts)) (32 * j) 32
-    ∙ ap (λ (k : ℕ). scale (totals_value (drop (i + 1 + j) ts)) k) (let f : 32 * j + 32 ≡ 32 * suc j = omega arith in f)
-    ∙ ap (λ (k : ℕ). scale (totals_value (drop k ts)) (32 * suc j)) (sym e)
+value_zeros ts i (suc j) inside none = grind (arith, ints, common_steps, drop_more ts i (pos 0), none i, value_zeros ts (i + 1) j, scale_scale (totals_value (drop (i + 1 + j) ts)) (32 * j) 32)

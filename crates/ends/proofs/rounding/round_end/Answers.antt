@@ -33,48 +33,35 @@ module _ (u : ℤ → ℤ) (W len : ℕ) (L : Lawful u W) (e v x : ℤ) (ef : SF
   laws : (v <ℤ e → x ≤ℤ e) × (e ≤ℤ (v +ℤ pos (32 * len))) × ((e +ℤ pos 1) ≤ℤ (x +ℤ pos (32 * len)))
   laws = laws_there u W len L e v x here record { from = omega (arith, ints); upto = omega (arith, ints) } spacing_here spacing_next room
 
-  below_highest : read v <ℤ highest
-  below_highest = let below = L.below e here in let is = spacing_here in omega (arith, ints)
+  laws_read : (read v <ℤ highest) × (read v <ℤ read e → read x ≤ℤ read e) × (read e ≤ℤ (read v +ℤ pos (32 * len))) × ((read e +ℤ pos 1) ≤ℤ (read x +ℤ pos (32 * len)))
+  laws_read =
+      let below = L.below e here in
+      let is = spacing_here in
+      rw (to_z-of_z w32 e ef, to_z-of_z w32 v vf, to_z-of_z w32 x xf) (omega (arith, ints), laws.0, laws.1, laws.2)
 
-  inside : read v <ℤ read e → read x ≤ℤ read e
-  inside = rw (to_z-of_z w32 e ef, to_z-of_z w32 v vf, to_z-of_z w32 x xf) laws.0
-
-  fits : read e ≤ℤ (read v +ℤ pos (32 * len))
-  fits = rw (to_z-of_z w32 e ef, to_z-of_z w32 v vf) laws.1
-
-  next_fits : (read e +ℤ pos 1) ≤ℤ (read x +ℤ pos (32 * len))
-  next_fits = rw (to_z-of_z w32 e ef, to_z-of_z w32 x xf) laws.2
-
-pub round_at-requires-clause-unit : goal.round_at-requires-clause-unit
-round_at-requires-clause-unit g c =
+pub round_at-requires : goal.round_at-requires
+round_at-requires g c =
     let s = c.args.rounding.grid.now in
     let e = c.exponent_of-exponent in
-    below_highest (g.G.Grid.spacing s) (g.G.Grid.widest s) (length c.args.answer.now) (g.G.Grid.lawful s) e.result c.spacing-unit.result c.spacing-next.result (search rules) (search rules) (search rules)
-    e.ensures.from e.ensures.upto c.spacing-unit.ensures c.spacing-next.ensures c.requires.room
-
-pub round_at-requires-clause-inside : goal.round_at-requires-clause-inside
-round_at-requires-clause-inside g c =
-    let s = c.args.rounding.grid.now in
-    let e = c.exponent_of-exponent in
-    inside (g.G.Grid.spacing s) (g.G.Grid.widest s) (length c.args.answer.now) (g.G.Grid.lawful s) e.result c.spacing-unit.result c.spacing-next.result (search rules) (search rules) (search rules)
-    e.ensures.from e.ensures.upto c.spacing-unit.ensures c.spacing-next.ensures c.requires.room
-
-pub round_at-requires-clause-fits : goal.round_at-requires-clause-fits
-round_at-requires-clause-fits g c =
-    let s = c.args.rounding.grid.now in
-    let e = c.exponent_of-exponent in
-    fits (g.G.Grid.spacing s) (g.G.Grid.widest s) (length c.args.answer.now) (g.G.Grid.lawful s) e.result c.spacing-unit.result c.spacing-next.result (search rules) (search rules) (search rules)
-    e.ensures.from e.ensures.upto c.spacing-unit.ensures c.spacing-next.ensures c.requires.room
-
-pub round_at-requires-clause-next : goal.round_at-requires-clause-next
-round_at-requires-clause-next g c =
-    let s = c.args.rounding.grid.now in
-    let e = c.exponent_of-exponent in
-    next_fits (g.G.Grid.spacing s) (g.G.Grid.widest s) (length c.args.answer.now) (g.G.Grid.lawful s) e.result c.spacing-unit.result c.spacing-next.result (search rules) (search rules) (search rules)
-    e.ensures.from e.ensures.upto c.spacing-unit.ensures c.spacing-next.ensures c.requires.room
-
-pub round_at-requires-clause-some : goal.round_at-requires-clause-some
-round_at-requires-clause-some g c = let L = g.G.Grid.lawful c.args.rounding.grid.now in omega (arith, c.requires.room, L.width_low)
+    let L = g.G.Grid.lawful s in
+    let (unit, inside, fits, next) = laws_read (g.G.Grid.spacing s) (g.G.Grid.widest s) (length c.args.answer.now) L e.result c.spacing-unit.result c.spacing-next.result (search rules) (search rules) (search rules)
+    e.ensures.from e.ensures.upto c.spacing-unit.ensures c.spacing-next.ensures c.requires.room in
+    record {
+      bits = search rules;
+      exponent = omega (arith, ints, e.ensures.is, c.bit_length-bits.ensures.is);
+      cap = search rules;
+      unit = unit;
+      inside = inside;
+      fits = fits;
+      next = next;
+      some = omega (arith, c.requires.room, L.width_low);
+      few = search rules;
+      nonzero = search rules;
+      determined = λ p. elim c.else-end.branch [
+        | else-end-via-then-end+else-unit-base k ↦ omega (arith, ints, k.if-unit-base.false)
+        | else-end-via-else-end k ↦ absurd (both_ways c.args.end.partial k.if-end.false p)
+      ];
+    }
 
 -- the spacing v at the exponent e of n units of 2 ^ w
 there : (u : ℤ → ℤ) (n : ℕ) (w e v : ℤ) → SFits w32 e → v ≡ u (read e) → e ≡ w +ℤ pos (size n) → v ≡ spacing_there u n w

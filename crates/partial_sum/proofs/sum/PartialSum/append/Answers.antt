@@ -81,33 +81,25 @@ module _ (p : PartialSum) (k : ℕ) (t d : ℤ) (fits : SFits w32 p.lowest) (tot
 pub invariant_of-self-clause-sound : goal.invariant_of-self-clause-sound
 invariant_of-self-clause-sound c =
     let p = c.args.self.now in
-    let fits : SFits w32 p.lowest = search rules in
-    (window_way p c.steps_down_to-steps.result c.args.total c.args.column fits c.ranges.total c.ranges.column c.requires.absorbs c.requires.appends c.steps_down_to-steps.ensures c.if-self-column.true).1
+    (window_way p c.steps_down_to-steps.result c.args.total c.args.column (search rules) c.ranges.total c.ranges.column c.requires.absorbs c.requires.appends c.steps_down_to-steps.ensures c.if-self-column.true).1
 
 pub returns-then-self-column : goal.returns-then-self-column
 returns-then-self-column c =
     let p = c.args.self.now in
-    let fits : SFits w32 p.lowest = search rules in
-    let took = (window_way p c.steps_down_to-steps.result c.args.total c.args.column fits c.ranges.total c.ranges.column c.requires.absorbs c.requires.appends c.steps_down_to-steps.ensures c.if-self-column.true).0 in
+    let took = (window_way p c.steps_down_to-steps.result c.args.total c.args.column (search rules) c.ranges.total c.ranges.column c.requires.absorbs c.requires.appends c.steps_down_to-steps.ensures c.if-self-column.true).0 in
     record { value = took.value; at = took.at; no_higher = took.no_higher }
 
 pub invariant_of-self-then-column-self-clause-sound : goal.invariant_of-self-then-column-self-clause-sound
 invariant_of-self-then-column-self-clause-sound c =
     let p = c.args.self.now in
-    let fits : SFits w32 p.lowest = search rules in
-    let rest : SFits w64 p.rest = search rules in
-    let made : SFits w64 c.joined-rest.result = search rules in
-    (rest_way p c.steps_down_to-steps.result c.args.total c.args.column fits c.ranges.total c.ranges.column c.requires.absorbs c.requires.appends c.steps_down_to-steps.ensures
-    c.joined-rest.result rest made c.joined-rest.ensures c.if-self-column.false c.if-column-self.true).1
+    (rest_way p c.steps_down_to-steps.result c.args.total c.args.column (search rules) c.ranges.total c.ranges.column c.requires.absorbs c.requires.appends c.steps_down_to-steps.ensures
+    c.joined-rest.result (search rules) (search rules) c.joined-rest.ensures c.if-self-column.false c.if-column-self.true).1
 
 pub returns-then-column-self : goal.returns-then-column-self
 returns-then-column-self c =
     let p = c.args.self.now in
-    let fits : SFits w32 p.lowest = search rules in
-    let rest : SFits w64 p.rest = search rules in
-    let made : SFits w64 c.joined-rest.result = search rules in
-    let took = (rest_way p c.steps_down_to-steps.result c.args.total c.args.column fits c.ranges.total c.ranges.column c.requires.absorbs c.requires.appends c.steps_down_to-steps.ensures
-    c.joined-rest.result rest made c.joined-rest.ensures c.if-self-column.false c.if-column-self.true).0 in
+    let took = (rest_way p c.steps_down_to-steps.result c.args.total c.args.column (search rules) c.ranges.total c.ranges.column c.requires.absorbs c.requires.appends c.steps_down_to-steps.ensures
+    c.joined-rest.result (search rules) (search rules) c.joined-rest.ensures c.if-self-column.false c.if-column-self.true).0 in
     record { value = took.value; at = took.at; no_higher = took.no_higher }
 
 pub overflow_add-self : goal.overflow_add-self
@@ -122,26 +114,14 @@ overflow_add-self c =
 pub invariant_of-self-2-clause-sound : goal.invariant_of-self-2-clause-sound
 invariant_of-self-2-clause-sound c =
     let p = c.args.self.now in
-    let fits : SFits w32 p.lowest = search rules in
-    let rest : SFits w64 p.rest = search rules in
-    let made : SFits w64 c.joined-rest.result = search rules in
-    let slot_fits : SFits w64 (slot p 0) = search rules in
-    let whole : SFits w64 c.nearest_units-units.result = search rules in
-    let stays : SFits w64 c.without_units-self.result = search rules in
-    (carry_way p c.steps_down_to-steps.result c.args.total c.args.column fits c.ranges.total c.ranges.column c.requires.absorbs c.requires.appends c.steps_down_to-steps.ensures
-    c.joined-rest.result rest made c.joined-rest.ensures c.if-self-column.false c.nearest_units-units.result c.without_units-self.result slot_fits whole stays c.nearest_units-units.ensures.few
+    (carry_way p c.steps_down_to-steps.result c.args.total c.args.column (search rules) c.ranges.total c.ranges.column c.requires.absorbs c.requires.appends c.steps_down_to-steps.ensures
+    c.joined-rest.result (search rules) (search rules) c.joined-rest.ensures c.if-self-column.false c.nearest_units-units.result c.without_units-self.result (search rules) (search rules) (search rules) c.nearest_units-units.ensures.few
     c.nearest_units-units.ensures.near c.without_units-self.ensures c.if-column-self.false).1
 
 pub returns : goal.returns
 returns c =
     let p = c.args.self.now in
-    let fits : SFits w32 p.lowest = search rules in
-    let rest : SFits w64 p.rest = search rules in
-    let made : SFits w64 c.joined-rest.result = search rules in
-    let slot_fits : SFits w64 (slot p 0) = search rules in
-    let whole : SFits w64 c.nearest_units-units.result = search rules in
-    let stays : SFits w64 c.without_units-self.result = search rules in
-    let took = (carry_way p c.steps_down_to-steps.result c.args.total c.args.column fits c.ranges.total c.ranges.column c.requires.absorbs c.requires.appends c.steps_down_to-steps.ensures
-    c.joined-rest.result rest made c.joined-rest.ensures c.if-self-column.false c.nearest_units-units.result c.without_units-self.result slot_fits whole stays c.nearest_units-units.ensures.few
+    let took = (carry_way p c.steps_down_to-steps.result c.args.total c.args.column (search rules) c.ranges.total c.ranges.column c.requires.absorbs c.requires.appends c.steps_down_to-steps.ensures
+    c.joined-rest.result (search rules) (search rules) c.joined-rest.ensures c.if-self-column.false c.nearest_units-units.result c.without_units-self.result (search rules) (search rules) (search rules) c.nearest_units-units.ensures.few
     c.nearest_units-units.ensures.near c.without_units-self.ensures c.if-column-self.false).0 in
     record { value = took.value; at = took.at; no_higher = took.no_higher }

@@ -1,4 +1,4 @@
-use Rattle.std.proofs.Common.{◌≡◌, ℕ, ◌^◌, ◌<◌, get_or, Option, sym, ap, ◌∙◌, subst, arith, rules}
+use Rattle.std.proofs.Common.{◌≡◌, ℕ, ◌^◌, ◌<◌, true, false, get_or, Option, sym, ap, ◌∙◌, subst, arith, rules}
 use Rattle.std.proofs.lemmas.Bool.{false≢true}
 use Rattle.std.proofs.lemmas.Slice.Eq.{slice_eq-Decides}
 use Rattle.std.proofs.lemmas.Bool.Decides.{Decides-eqb}
@@ -8,7 +8,7 @@ use Rattle.ends.specs.declared.rounded_end.RoundedEnd.{RoundedEnd}
 use Rattle.partial_sum.specs.Rounded.{BothRounded}
 use Rattle.partial_sum.proofs.LimbLists.{limbs_same}
 use Rattle.partial_sum.proofs.Same.{same_when, when_same, same_end}
-use Rattle.partial_sum.proofs.Assembling.{undecided_lower, undecided_upper, decided, decided_at_once, undecided}
+use Rattle.partial_sum.proofs.Assembling.{undecided_at, decided, decided_at_once, undecided}
 use Rattle.partial_sum.proofs.Shortness.{undecided_yet}
 use Rattle.partial_sum.proofs.sum.PartialSum.round_ends.Goals as goal
 use Rattle.partial_sum.proofs.sum.PartialSum.round_ends.Goals.{else-eq-2-via-then-eq-2+else-eq-3, else-eq-2-via-else-eq-2}
@@ -29,8 +29,8 @@ pub returns-in_err-first : goal.returns-in_err-first
 returns-in_err-first g c =
     let grid = c.args.rounding.grid.now in
     subst (λ (o : Option RoundedEnd). BothRounded (g.G.Grid.spacing grid) (mode_of c.args.rounding.mode) c.args.self.now c.args.below.reaching c.args.below.column o (limbs_value c.round_at.new.answer)) (sym c.from_residual.ensures)
-    (undecided_lower (g.G.Grid.spacing grid) (g.G.Grid.widest grid) (g.G.Grid.lawful grid) (mode_of c.args.rounding.mode) c.args.self.now c.requires.reach c.args.below.reaching
-    c.args.below.column c.requires.reached c.ends.result.0 c.ends.ensures.lower_small c.ends.ensures.lower c.in_err-first.ensures.rounded)
+    (undecided_at (g.G.Grid.spacing grid) (g.G.Grid.widest grid) (g.G.Grid.lawful grid) (mode_of c.args.rounding.mode) c.args.self.now c.requires.reach c.args.below.reaching
+    false c.args.below.column c.requires.reached c.ends.result.0 c.ends.ensures.lower_small c.ends.ensures.lower c.in_err-first.ensures.rounded)
 
 pub returns-then-eq : goal.returns-then-eq
 returns-then-eq g c =
@@ -49,8 +49,8 @@ pub returns-in_err-second : goal.returns-in_err-second
 returns-in_err-second g c =
     let grid = c.args.rounding.grid.now in
     subst (λ (o : Option RoundedEnd). BothRounded (g.G.Grid.spacing grid) (mode_of c.args.rounding.mode) c.args.self.now c.args.below.reaching c.args.below.column o (limbs_value c.round_at.new.answer)) (sym c.from_residual-in_err-second.ensures)
-    (undecided_upper (g.G.Grid.spacing grid) (g.G.Grid.widest grid) (g.G.Grid.lawful grid) (mode_of c.args.rounding.mode) c.args.self.now c.requires.reach c.args.below.reaching
-    c.args.below.column c.requires.reached c.ends.result.1 c.ends.ensures.upper_small c.ends.ensures.upper c.in_err-second.ensures.rounded)
+    (undecided_at (g.G.Grid.spacing grid) (g.G.Grid.widest grid) (g.G.Grid.lawful grid) (mode_of c.args.rounding.mode) c.args.self.now c.requires.reach c.args.below.reaching
+    true c.args.below.column c.requires.reached c.ends.result.1 c.ends.ensures.upper_small c.ends.ensures.upper c.in_err-second.ensures.rounded)
 
 pub returns-then-eq-3 : goal.returns-then-eq-3
 returns-then-eq-3 g c =

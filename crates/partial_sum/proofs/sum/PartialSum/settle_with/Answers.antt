@@ -16,17 +16,14 @@ lowest_is p a fits also few = let small = slot_small p p.from p.used in omega (a
 pub settle_whole-requires-clause-small : goal.settle_whole-requires-clause-small
 settle_whole-requires-clause-small c =
     let p = c.args.self.now in
-    let fits : SFits w64 (slot p p.from) = search rules in
-    slice_small p c.args.offset (lowest_with p c.args.offset) c.requires.few (lowest_is p c.args.offset fits c.ranges.offset c.requires.few)
+    slice_small p c.args.offset (lowest_with p c.args.offset) c.requires.few (lowest_is p c.args.offset (search rules) c.ranges.offset c.requires.few)
 
 pub returns-clause-negative : goal.returns-clause-negative
 returns-clause-negative c =
     let p = c.args.self.now in
-    let fits : SFits w64 (slot p p.from) = search rules in
-    c.settle_whole.ensures.negative ∙ ap is_negative (slice_value p c.args.offset (lowest_with p c.args.offset) (lowest_is p c.args.offset fits c.ranges.offset c.requires.few))
+    c.settle_whole.ensures.negative ∙ ap is_negative (slice_value p c.args.offset (lowest_with p c.args.offset) (lowest_is p c.args.offset (search rules) c.ranges.offset c.requires.few))
 
 pub returns-clause-magnitude : goal.returns-clause-magnitude
 returns-clause-magnitude c =
     let p = c.args.self.now in
-    let fits : SFits w64 (slot p p.from) = search rules in
-    c.settle_whole.ensures.magnitude ∙ ap nat_abs (slice_value p c.args.offset (lowest_with p c.args.offset) (lowest_is p c.args.offset fits c.ranges.offset c.requires.few))
+    c.settle_whole.ensures.magnitude ∙ ap nat_abs (slice_value p c.args.offset (lowest_with p c.args.offset) (lowest_is p c.args.offset (search rules) c.ranges.offset c.requires.few))
