@@ -84,8 +84,7 @@ in_upto c cs k a (inl e) = omega (arith, ints)
 in_upto c cs k a (inr i) = let l = in_below c cs k a i in omega (arith, ints)
 
 pub in_rest : (c : ℤ) (cs : List ℤ) (k : ℤ) → k <ℤ c → Listed (c ∷ cs) k → Listed cs k
-in_rest c cs k l (inl e) = absurd (omega (arith, ints))
-in_rest c cs k l (inr i) = i
+in_rest c cs k h g = grind (arith, ints)
 
 -- all occupied columns below c are in the list
 abbrev Covers : List Part → ℤ → List ℤ → Type 0

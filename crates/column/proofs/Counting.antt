@@ -1,5 +1,6 @@
 -- The list of the counted terms grows with each place as the parts do.
 use Rattle.std.proofs.Common.{◌≡◌, ℕ, suc, ◌+◌, ◌<◌, Bool, true, false, ◌==◌, List, [], ◌∷◌, ◌++◌, map, length, get_or, take, pos, sym, refl, ap, ◌∙◌, ap₂, append_assoc, append-nil, arith}
+use borrow.Author.Differences.{ints}
 use Rattle.std.specs.List.{AllByRecursion}
 use Rattle.std.proofs.ByRecursion.{All-map, All-append}
 use Rattle.std.proofs.lemmas.List.{take_more, get_or-map, map-append, length-take-le}
@@ -23,34 +24,10 @@ abbrev pub below_0 : Kind → Bool
 below_0 q = kind_number q == 6
 
 counted_some : (k : Mark) (t : Term) → kind_is_regular (counted_kind k (kind_of t)) ≡ true → counted_part k t ≡ signed_part (below_0 (counted_kind k (kind_of t))) t ∷ []
-counted_some Out t e = cc
-counted_some In not_a_number e = cc
-counted_some In (infinite true) e = cc
-counted_some In (infinite false) e = cc
-counted_some In (signed_zero true) e = cc
-counted_some In (signed_zero false) e = cc
-counted_some In (regular true m q) e = refl
-counted_some In (regular false m q) e = refl
-counted_some Turned not_a_number e = cc
-counted_some Turned (infinite true) e = cc
-counted_some Turned (infinite false) e = cc
-counted_some Turned (signed_zero true) e = cc
-counted_some Turned (signed_zero false) e = cc
-counted_some Turned (regular true m q) e = refl
-counted_some Turned (regular false m q) e = refl
+counted_some k t h = grind (arith, ints)
 
 counted_none : (k : Mark) (t : Term) → kind_is_regular (counted_kind k (kind_of t)) ≡ false → counted_part k t ≡ []
-counted_none Out t e = refl
-counted_none In not_a_number e = refl
-counted_none In (infinite s) e = refl
-counted_none In (signed_zero s) e = refl
-counted_none In (regular true m q) e = cc
-counted_none In (regular false m q) e = cc
-counted_none Turned not_a_number e = refl
-counted_none Turned (infinite s) e = refl
-counted_none Turned (signed_zero s) e = refl
-counted_none Turned (regular true m q) e = cc
-counted_none Turned (regular false m q) e = cc
+counted_none k t h = grind (arith, ints)
 
 -- ---- one place more
 parts_push : (marks : ℕ → Mark) (j : ℕ) (ts : List Term) (t : Term) → parts_from marks j (ts ++ t ∷ []) ≡ parts_from marks j ts ++ counted_part (marks (j + length ts)) t

@@ -32,29 +32,16 @@ true_same : (a b : ℤ) → a ≡ b → same_integer a b ≡ true
 true_same a b e = grind (arith, ints)
 
 sign_true : (a b : Bool) → same_sign a b ≡ true → a ≡ b
-sign_true true true e = refl
-sign_true true false e = sym e
-sign_true false true e = e
-sign_true false false e = refl
+sign_true a b h = grind (arith, ints)
 
 true_sign : (a b : Bool) → a ≡ b → same_sign a b ≡ true
-true_sign true b e = sym e
-true_sign false true e = e
-true_sign false false e = refl
+true_sign a b h = grind (arith, ints)
 
 pub alike_true : (a b : Answer) → alike a b ≡ true → Alike a b
-alike_true a b e =
-    let x = at b.value.weight a.value in
-    let y = at a.value.weight b.value in
-    let p = and_parts (same_integer x y) (same_sign a.negative b.negative && same_integer a.direction b.direction) e in
-    let q = and_parts (same_sign a.negative b.negative) (same_integer a.direction b.direction) p.1 in
-    record { values = same_true x y p.0; signs = sign_true a.negative b.negative q.0; directions = same_true a.direction b.direction q.1 }
+alike_true a b e = grind (arith, ints)
 
 pub true_alike : (a b : Answer) → Alike a b → alike a b ≡ true
-true_alike a b k =
-    let x = at b.value.weight a.value in
-    let y = at a.value.weight b.value in
-    rw (true_same x y k.values, true_sign a.negative b.negative k.signs, true_same a.direction b.direction k.directions)
+true_alike a b k = grind (arith, ints)
 
 -- ---- the first column at which the ends are alike
 module _ (u : ℤ → ℤ) (m : Mode) (ps : List Part) where

@@ -86,8 +86,7 @@ module _ (b : ℤ) where
 
 -- where all lie below the limit, the first below it is the first
 pub first_is : (b : ℤ) (cs : List ℤ) → AllByRecursion (λ c. c <ℤ b) cs → first_below b cs ≡ first_column cs
-first_is b [] h = refl
-first_is b (c ∷ cs) h = cond_both (lt_z c b) (Some c) (first_below b cs) (λ (r : Option ℤ). r ≡ Some c) (λ e. refl) (λ e. absurd (omega (arith, ints, h.0)))
+first_is b cs h = grind (arith, ints)
 
 -- ---- the greatest of the columns that some terms have, part after part
 -- the greater of two, as `max` picks it
@@ -95,15 +94,10 @@ abbrev pub picked : ℤ → ℤ → ℤ
 picked p z = max_by_ordering (int_cmp p z) p z
 
 picked_is : (p z : ℤ) → int_max p z ≡ picked p z
-picked_is p z =
-    cond_both (lt_z p z) Less (cond (lt_z z p) Greater Equal) (λ o. int_max p z ≡ max_by_ordering o p z)
-    (λ e. omega (arith, ints, clamps))
-    (λ e. cond_both (lt_z z p) Greater Equal (λ o. int_max p z ≡ max_by_ordering o p z) (λ f. omega (arith, ints, clamps)) (λ f. omega (arith, ints, clamps)))
+picked_is p z = grind (arith, ints)
 
 ungrouped : {A B C : Type 0} → (A ⊎ B) ⊎ C → A ⊎ (B ⊎ C)
-ungrouped (inl (inl a)) = inl a
-ungrouped (inl (inr b)) = inr (inl b)
-ungrouped (inr c) = inr (inr c)
+ungrouped h = grind (arith, ints)
 
 module _ {X : Type 0} (b : ℤ) (part_at : X → Part) (h : X → Option ℤ) (each : (x : X) → Highest b (Occupies (part_at x)) (h x)) where
   -- the greatest of a list of columns, from one on

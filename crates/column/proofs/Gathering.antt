@@ -28,10 +28,7 @@ total_small ps k h =
     omega (arith, ints, d)
 
 digit_small : (p : Part) (k : ℤ) → nat_abs (signed p.negative (digit p k)) < 2 ^ 32
-digit_small p k =
-    let l = mod-lt (units p (column_weight k)) (pow_pos 32) in
-    let s = signed_within p.negative (digit p k) (digit p k) (omega arith) in
-    omega (arith, ints, s)
+digit_small p k = grind (arith, ints)
 
 -- the sum of a 64-bit total and a digit
 abbrev pub summed : ℤ → ℤ → ℤ

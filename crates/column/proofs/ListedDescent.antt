@@ -19,10 +19,7 @@ highest_of_all ts b = greatest_of_all b (listed_part ts) (highest_occupied ts b)
 
 -- ---- all columns lie below the largest number of 32 bits
 top_limited : (t : Term) → Limited t → top_weight t ≤ℤ pos farthest_top
-top_limited not_a_number l = omega (arith, ints)
-top_limited (infinite s) l = omega (arith, ints)
-top_limited (signed_zero s) l = omega (arith, ints)
-top_limited (regular s m q) l = l.not_above
+top_limited t h = grind (arith, ints)
 
 pub top_at_limited : (ts : List Term) → AllByRecursion Limited ts → (i : ℕ) → top_of_term ts i ≤ℤ pos farthest_top
 top_at_limited [] l i = omega (arith, ints)

@@ -11,13 +11,10 @@ use Rattle.column.specs.Parts.{Part, top}
 use Rattle.column.specs.Columns.{Occupies, Occupied, column_of, height, with_column, with_columns, columns, Falling, Listed}
 
 either : {A B C D : Type 0} → (A → C) → (B → D) → A ⊎ B → C ⊎ D
-either f g (inl a) = inl (f a)
-either f g (inr b) = inr (g b)
+either h g k1 = grind (arith, ints)
 
 pub swap : {A B C : Type 0} → A ⊎ (B ⊎ C) → B ⊎ (A ⊎ C)
-swap (inl a) = inr (inl a)
-swap (inr (inl b)) = inl b
-swap (inr (inr c)) = inr (inr c)
+swap h = grind (arith, ints)
 
 in_from : (k : ℤ) (cs : List ℤ) (x : ℤ) → Listed (with_column k cs) x → (x ≡ k) ⊎ Listed cs x
 in_from k [] x = λ h. h
@@ -63,9 +60,7 @@ last_run k n x (inl e) = (omega (arith, ints), omega (arith, ints))
 last_run k n x (inr (a, b)) = (a, omega (arith, ints))
 
 pub regrouped : {A B C : Type 0} → A ⊎ (B ⊎ C) → (A ⊎ B) ⊎ C
-regrouped (inl a) = inl (inl a)
-regrouped (inr (inl b)) = inl (inr b)
-regrouped (inr (inr c)) = inr c
+regrouped h = grind (arith, ints)
 
 run_from : (k : ℤ) (n : ℕ) (cs : List ℤ) (x : ℤ) → Listed (with_columns k n cs) x → Run k n x ⊎ Listed cs x
 run_from k zero cs x i = inr i
@@ -83,8 +78,7 @@ falling_run k (suc n) cs d = falling_with (k +ℤ pos n) (with_columns k n cs) (
 
 -- ---- the columns of a part
 pub floor_is : (z : ℤ) → (column_weight (column_of z) ≤ℤ z) × (z <ℤ column_weight (column_of z +ℤ pos 1))
-floor_is (pos a) = (omega (arith, ints), omega (arith, ints))
-floor_is (negsuc a) = (omega (arith, ints), omega (arith, ints))
+floor_is z = grind (arith, ints)
 
 run_occupies : (p : Part) (k : ℤ) → Run (column_of p.weight) (height p) k ↔ Occupies p k
 run_occupies p k =

@@ -154,17 +154,10 @@ abbrev pub highest_top : ℤ
 highest_top = pos 1000000000
 
 regular_ranged : (t : Term) → Limited t → AllByRecursion (Ranged lowest_low highest_top) (regular_part t)
-regular_ranged not_a_number h = tt
-regular_ranged (infinite s) h = tt
-regular_ranged (signed_zero s) h = tt
-regular_ranged (regular s m q) h = (record { from = omega (arith, ints, h.few_digits, h.not_below); upto = h.not_above }, tt)
+regular_ranged t h = grind (arith, ints)
 
 counted_ranged : (k : Mark) (t : Term) → Limited t → AllByRecursion (Ranged lowest_low highest_top) (counted_part k t)
-counted_ranged Out t h = tt
-counted_ranged In t h = regular_ranged t h
-counted_ranged Turned t h =
-    All-map (Ranged lowest_low highest_top) turned (regular_part t)
-    (All-weaker (Ranged lowest_low highest_top) (λ p. Ranged lowest_low highest_top (turned p)) (λ p r. record { from = r.from; upto = r.upto }) (regular_part t) (regular_ranged t h))
+counted_ranged k t h = grind (arith, ints)
 
 parts_ranged : (marks : ℕ → Mark) (i : ℕ) (ts : List Term) → AllByRecursion Limited ts → AllByRecursion (Ranged lowest_low highest_top) (parts_from marks i ts)
 parts_ranged marks i [] l = tt
@@ -172,15 +165,10 @@ parts_ranged marks i (t ∷ ts) (h, l) =
     All-append (Ranged lowest_low highest_top) (counted_part (marks i) t) (parts_from marks (suc i) ts) (counted_ranged (marks i) t h) (parts_ranged marks (suc i) ts l)
 
 one_regular : (t : Term) → length (regular_part t) ≤ 1
-one_regular not_a_number = omega arith
-one_regular (infinite s) = omega arith
-one_regular (signed_zero s) = omega arith
-one_regular (regular s m q) = omega arith
+one_regular t = grind (arith, ints)
 
 one_counted : (k : Mark) (t : Term) → length (counted_part k t) ≤ 1
-one_counted Out t = omega arith
-one_counted In t = one_regular t
-one_counted Turned t = let o = one_regular t in omega (arith, length-map (regular_part t) turned)
+one_counted k t = grind (arith, ints)
 
 pub parts_few : (marks : ℕ → Mark) (i : ℕ) (ts : List Term) → length (parts_from marks i ts) ≤ length ts
 parts_few marks i [] = omega arith

@@ -26,7 +26,7 @@ units_split p w v h = rw (units_coarser p w v h) (sym (split (units p v) (gap w 
 
 -- below the part's lowest weight nothing is cut off
 pub units_whole : (p : Part) (z : ℤ) → z ≤ℤ p.weight → units p z ≡ p.significand * 2 ^ gap p.weight z
-units_whole p z h = let e : gap z p.weight ≡ 0 = omega (arith, ints) in rw e (div-one (p.significand * 2 ^ gap p.weight z))
+units_whole p z h = grind (arith, ints)
 
 -- a part from w up has nothing between z and w
 pub units_none : (p : Part) (w z : ℤ) → z ≤ℤ w → w ≤ℤ p.weight → units p z % 2 ^ gap w z ≡ 0

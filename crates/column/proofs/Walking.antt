@@ -61,7 +61,7 @@ alike_stays u W L m ps s c d ds f k =
 -- ---- column after column
 pub walk_starts : WalkStarts
 unfolding depth answer
-walk_starts u m ps = record { to_come = ([], refl); deeper = omega arith; same = refl }
+walk_starts u m ps = grind (arith, ints)
 
 pub walk_goes_on : WalkGoesOn
 walk_goes_on u m ps j c cs w n =
@@ -74,6 +74,4 @@ walk_goes_on u m ps j c cs w n =
     }
 
 pub walk_ends : WalkEnds
-walk_ends u m ps j c cs w k =
-    let e = true_alike (rounded u m (lower_end ps c cs)) (rounded u m (upper_end ps c cs)) k in
-    (w.deeper ∙ rw e, w.same ∙ rw e)
+walk_ends u m ps j c cs w k = grind (arith, ints)
