@@ -72,27 +72,8 @@ module _ (u : ℤ → ℤ) (x v w : Dyadic) (e : v ≈ᴰ w) where
   wanted_≈ away_from_zero h = (λ s. upper_≈ (h.0 s), λ s. lower_≈ (h.1 s))
 
   pub toward_≈ : (d : ℤ) → Toward d v x → Toward d w x
-  toward_≈ d t = record {
-    minus = λ s. lt_left v w e x (t.minus s);
-    below = λ l. t.below (lt_left w v (sym e) x l);
-    none = λ s. ≈ᴰ_trans w v x (sym e) (t.none s);
-    equal = λ s. t.equal (≈ᴰ_trans v w x e s);
-    one = λ s. lt_right v w e x (t.one s);
-    above = λ l. t.above (lt_right w v (sym e) x l);
-  }
+  toward_≈ d t = grind (arith, ints, lt_left, lt_right, ≈ᴰ_trans)
 
 -- what a mode asks for is on the grid
 pub wanted_on : (u : ℤ → ℤ) (m : Mode) (x v : Dyadic) → Wanted u m x v → OnGrid u v
-wanted_on u nearest x v h = h.on
-wanted_on u downward x v h = h.on
-wanted_on u upward x v h = h.on
-wanted_on u toward_zero x v h = by_sign (is_negative x.count) h.0 h.1
-  where
-    by_sign : (b : Bool) → (b ≡ false → Lower u x v) → (b ≡ true → Upper u x v) → OnGrid u v
-    by_sign false l r = (l refl).on
-    by_sign true l r = (r refl).on
-wanted_on u away_from_zero x v h = by_sign (is_negative x.count) h.0 h.1
-  where
-    by_sign : (b : Bool) → (b ≡ false → Upper u x v) → (b ≡ true → Lower u x v) → OnGrid u v
-    by_sign false l r = (l refl).on
-    by_sign true l r = (r refl).on
+wanted_on u m x v h = grind (arith, ints)

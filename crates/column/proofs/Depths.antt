@@ -25,18 +25,6 @@ pub sum_settled : SumSettled
 sum_settled u W L m ps s c cs (above, e) = link_settles u (laws_everywhere u W L) m ps c cs (chain ps s above (c ∷ cs) e).0
 
 -- ---- the test says whether two answers are alike
-same_true : (a b : ℤ) → same_integer a b ≡ true → a ≡ b
-same_true a b e = grind (arith, ints)
-
-true_same : (a b : ℤ) → a ≡ b → same_integer a b ≡ true
-true_same a b e = grind (arith, ints)
-
-sign_true : (a b : Bool) → same_sign a b ≡ true → a ≡ b
-sign_true a b h = grind (arith, ints)
-
-true_sign : (a b : Bool) → a ≡ b → same_sign a b ≡ true
-true_sign a b h = grind (arith, ints)
-
 pub alike_true : (a b : Answer) → alike a b ≡ true → Alike a b
 alike_true a b e = grind (arith, ints)
 

@@ -153,9 +153,6 @@ lowest_low = neg_ℤ (pos 1000004096)
 abbrev pub highest_top : ℤ
 highest_top = pos 1000000000
 
-regular_ranged : (t : Term) → Limited t → AllByRecursion (Ranged lowest_low highest_top) (regular_part t)
-regular_ranged t h = grind (arith, ints)
-
 counted_ranged : (k : Mark) (t : Term) → Limited t → AllByRecursion (Ranged lowest_low highest_top) (counted_part k t)
 counted_ranged k t h = grind (arith, ints)
 
@@ -163,9 +160,6 @@ parts_ranged : (marks : ℕ → Mark) (i : ℕ) (ts : List Term) → AllByRecurs
 parts_ranged marks i [] l = tt
 parts_ranged marks i (t ∷ ts) (h, l) =
     All-append (Ranged lowest_low highest_top) (counted_part (marks i) t) (parts_from marks (suc i) ts) (counted_ranged (marks i) t h) (parts_ranged marks (suc i) ts l)
-
-one_regular : (t : Term) → length (regular_part t) ≤ 1
-one_regular t = grind (arith, ints)
 
 one_counted : (k : Mark) (t : Term) → length (counted_part k t) ≤ 1
 one_counted k t = grind (arith, ints)
