@@ -31,9 +31,7 @@ counted_none k t h = grind (arith, ints)
 
 -- ---- one place more
 parts_push : (marks : ℕ → Mark) (j : ℕ) (ts : List Term) (t : Term) → parts_from marks j (ts ++ t ∷ []) ≡ parts_from marks j ts ++ counted_part (marks (j + length ts)) t
-parts_push marks j [] t =
-    let e : j ≡ j + 0 = omega arith in
-    append-nil (counted_part (marks j) t) ∙ ap (λ (i : ℕ). counted_part (marks i) t) e
+parts_push marks j [] t = grind (arith, ints)
 parts_push marks j (x ∷ ts) t =
     let e : suc j + length ts ≡ j + suc (length ts) = omega arith in
     ap (λ (ps : List Part). counted_part (marks j) x ++ ps) (parts_push marks (suc j) ts t ∙ ap (λ (i : ℕ). parts_from marks (suc j) ts ++ counted_part (marks i) t) e)
@@ -90,4 +88,4 @@ counted_regular Turned t l = All-map (λ p. 0 < p.significand) turned (regular_p
 
 pub parts_regular : (marks : ℕ → Mark) (i : ℕ) (ts : List Term) → AllByRecursion Limited ts → Regular (parts_from marks i ts)
 parts_regular marks i [] l = tt
-parts_regular marks i (t ∷ ts) (h, l) = All-append (λ p. 0 < p.significand) (counted_part (marks i) t) (parts_from marks (suc i) ts) (counted_regular (marks i) t h) (parts_regular marks (suc i) ts l)
+parts_regular marks i (t ∷ ts) (h, l) = grind (arith, ints, All-append, counted_regular, parts_regular marks (suc i) ts l)

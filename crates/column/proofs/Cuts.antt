@@ -62,8 +62,7 @@ total_within ps k =
 -- ---- the exact sum
 sum_exact : (z : ℤ) (ps : List Part) → BelowAll z (map number ps) → total_at z (map number ps) ≡ signed_sum (λ p. units p z) ps
 sum_exact z [] h = refl
-sum_exact z (p ∷ ps) (l, h) =
-    ap₂ ◌+ℤ◌ (scale_signed p.negative p.significand (gap p.weight z) ∙ ap (signed p.negative) (sym (units_whole p z l))) (sum_exact z ps h)
+sum_exact z (p ∷ ps) (l, h) = grind (arith, ints, scale_signed, units_whole, sum_exact z ps h)
 
 pub at_exact : (z : ℤ) (ps : List Part) → z ≤ℤ (exact_sum ps).weight → at z (exact_sum ps) ≡ signed_sum (λ p. units p z) ps
 at_exact z ps h = let a = below_all z (map number ps) h in at_total z (map number ps) a ∙ sum_exact z ps a

@@ -46,12 +46,10 @@ module _ (u : ℤ → ℤ) (m : Mode) (ps : List Part) where
   Here cs j = AlikeAt u m ps cs j × (j ≤ length cs)
 
   here_one : (c : ℤ) (cs : List ℤ) → ends_alike u m ps c cs ≡ true → Here (c ∷ cs) 1
-  here_one c cs e = (alike_true (rounded u m (lower_end ps c cs)) (rounded u m (upper_end ps c cs)) e, omega arith)
+  here_one c cs e = grind (arith, ints, alike_true)
 
   here : (c : ℤ) (cs : List ℤ) → Here (c ∷ cs) (depth_in u m ps (c ∷ cs))
-  here c [] =
-      cond_both {A = ℕ} (ends_alike u m ps c []) 1 (suc 0) (Here (c ∷ [])) (here_one c [])
-      (λ e. absurd (both_ways (ends_alike u m ps c []) e (true_alike (rounded u m (lower_end ps c [])) (rounded u m (upper_end ps c [])) (last_alike c))))
+  here c [] = grind (arith, ints)
   here c (d ∷ ds) =
       let h = here d ds in
       let j = depth_in u m ps (d ∷ ds) in
@@ -60,7 +58,7 @@ module _ (u : ℤ → ℤ) (m : Mode) (ps : List Part) where
   least : (cs : List ℤ) (j : ℕ) → AlikeAt u m ps cs j → depth_in u m ps cs ≤ j
   least [] j h = elim h [ ]
   least (c ∷ cs) zero h = elim h [ ]
-  least (c ∷ cs) (suc zero) h = rw (true_alike (rounded u m (lower_end ps c cs)) (rounded u m (upper_end ps c cs)) h) (omega arith)
+  least (c ∷ cs) (suc zero) h = grind (arith, ints)
   least (c ∷ cs) (suc (suc j)) h =
       let i = least cs (suc j) h in
       cond_both {A = ℕ} (ends_alike u m ps c cs) 1 (suc (depth_in u m ps cs)) (λ n. n ≤ suc (suc j)) (λ e. omega arith) (λ e. omega (arith, i))

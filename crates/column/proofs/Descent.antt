@@ -33,34 +33,22 @@ module _ (low top below : ℤ) where
       ((omega (arith, ints, clamps), omega (arith, ints, clamps)), omega (arith, ints, clamps), λ k s l. omega (arith, ints, clamps))
 
   pub spanned_is : Highest below (Spans low top) (highest_spanned low top below)
-  spanned_is =
-      cond_both (lt_z candidate (column_of low)) None (Some candidate) (Highest below (Spans low top))
-      (λ e. none_spanned (omega (arith, ints)))
-      (λ e. some_spanned candidate refl (omega (arith, ints)))
+  spanned_is = grind (arith, ints, none_spanned, some_spanned)
 
 -- ---- the highest of two sorts of columns
 module _ (b : ℤ) where
   pub highest_either : (P Q : ℤ → Type 0) (r s : Option ℤ) → Highest b P r → Highest b Q s → Highest b (λ k. P k ⊎ Q k) (higher r s)
   highest_either P Q None None h g = λ k o l. elim o [ inl p ↦ h k p l | inr q ↦ g k q l ]
-  highest_either P Q None (Some d) h (q, l, m) = (inr q, l, λ k o n. elim o [ inl p ↦ absurd (h k p n) | inr q' ↦ m k q' n ])
-  highest_either P Q (Some c) None (p, l, m) g = (inl p, l, λ k o n. elim o [ inl p' ↦ m k p' n | inr q ↦ absurd (g k q n) ])
-  highest_either P Q (Some c) (Some d) (p, l, m) (q, l', m') =
-      by_lt_z c d
-      (λ lt. let e : d ≡ int_max c d = omega (arith, ints, clamps) in subst (λ (x : ℤ). Highest b (λ k. P k ⊎ Q k) (Some x)) e
-      (inr q, l', λ k o n. elim o [ inl p' ↦ (let z = m k p' n in omega (arith, ints)) | inr q' ↦ m' k q' n ]))
-      (λ ge. let e : c ≡ int_max c d = omega (arith, ints, clamps) in subst (λ (x : ℤ). Highest b (λ k. P k ⊎ Q k) (Some x)) e
-      (inl p, l, λ k o n. elim o [ inl p' ↦ m k p' n | inr q' ↦ (let z = m' k q' n in omega (arith, ints)) ]))
+  highest_either P Q None (Some d) h (q, l, m) = grind (arith, ints)
+  highest_either P Q (Some c) None (p, l, m) g = grind (arith, ints)
+  highest_either P Q (Some c) (Some d) (p, l, m) (q, l', m') = grind (arith, ints, clamps)
 
   -- there is but one highest
   pub highest_unique : (P : ℤ → Type 0) (r s : Option ℤ) → Highest b P r → Highest b P s → r ≡ s
   highest_unique P None None h g = refl
   highest_unique P None (Some d) h (q, l, m) = absurd (h d q l)
   highest_unique P (Some c) None (p, l, m) g = absurd (g c p l)
-  highest_unique P (Some c) (Some d) (p, l, m) (q, l', m') =
-      let a = m d q l' in
-      let z = m' c p l in
-      let e : c ≡ d = omega (arith, ints) in
-      ap Some e
+  highest_unique P (Some c) (Some d) (p, l, m) (q, l', m') = grind (arith, ints)
 
   -- the same of columns that are the same
   pub highest_same : (P Q : ℤ → Type 0) (r : Option ℤ) → ((k : ℤ) → P k → Q k) → ((k : ℤ) → Q k → P k) → Highest b P r → Highest b Q r
@@ -118,12 +106,12 @@ module _ {X : Type 0} (b : ℤ) (part_at : X → Part) (h : X → Option ℤ) (e
       highest_same b (Or both xs) (Or P (x ∷ xs)) (from (picked a c) xs) (λ k. ungrouped) (λ k. regrouped) (further both (picked a c) two)
 
   greatest_from : (xs : List X) (P : ℤ → Type 0) (a : ℤ) → Highest b P (Some a) → Highest b (Or P xs) (from a xs)
-  greatest_from [] P a m = highest_same b P (λ k. P k ⊎ ⊥) (Some a) (λ k p. inl p) (λ k o. elim o [ inl p ↦ p | inr e ↦ absurd e ]) m
+  greatest_from [] P a m = grind (arith, ints)
   greatest_from (x ∷ xs) P a m = greatest_more P a x xs m (greatest_from xs) (h x) (each x)
 
   greatest_first : (x : X) (xs : List X) → Highest b (Occupied (map part_at xs)) (reduce picked (filter_map h xs)) → (r : Option ℤ) → Highest b (Occupies (part_at x)) r
       → Highest b (Or (Occupies (part_at x)) xs) (reduce picked (cons_option r (filter_map h xs)))
-  greatest_first x xs rest None n = highest_either b (Occupies (part_at x)) (Occupied (map part_at xs)) None (reduce picked (filter_map h xs)) n rest
+  greatest_first x xs rest None n = grind (arith, ints)
   greatest_first x xs rest (Some c) n = greatest_from xs (Occupies (part_at x)) c n
 
   pub greatest_of_all : (xs : List X) → Highest b (Occupied (map part_at xs)) (reduce picked (filter_map h xs))

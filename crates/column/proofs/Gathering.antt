@@ -45,13 +45,13 @@ module _ (ts : List Term) (xs : List CountedTerm) (k : ℤ) (i : ℕ) where
   -- zs is how the code reads them
   module _ (t : ℤ) (n : ℕ) (w : Gathered (first_parts i) k t n) (few : length xs ≤ 1024) (zs : List CountedTerm) (same : zs ≡ xs) (within : i ≤ length zs) where
     few_first : length (first_parts i) ≤ 1024
-    few_first = let l = ap (length {A = CountedTerm}) same in first_few few (omega (arith, l, within))
+    few_first = grind (arith, ints, first_few)
 
     pub gathered_small : (nat_abs t < 2 ^ 42) × (n ≤ 1024)
     gathered_small = (rw w.total (total_small (first_parts i) k few_first), omega (arith, w.below, tally_le (λ p. lt_z (low p) (column_weight k)) (first_parts i), few_first))
 
     pub sum_fits : (c : CountedTerm) (d : ℤ) → d ≡ signed (listed_part ts c).negative (digit (listed_part ts c) k) → SFits w64 (summed t d)
-    sum_fits c d e = let s = gathered_small.0 in let r : nat_abs d < 2 ^ 32 = rw e (digit_small (listed_part ts c) k) in omega (arith, ints)
+    sum_fits c d e = grind (arith, ints, digit_small, gathered_small)
 
     -- one term more
     pub gathered_more : (c : CountedTerm) → i < length zs → (d : ℤ) (b : Bool) (o : ℕ) → d ≡ signed (listed_part ts (get_or zs i c)).negative (digit (listed_part ts (get_or zs i c)) k)
@@ -72,7 +72,4 @@ module _ (ts : List Term) (xs : List CountedTerm) (k : ℤ) (i : ℕ) where
 
     -- all of them, at the caller's column
     pub gathered_all : (b : ℤ) → length zs ≤ i → k ≡ b → Gathered (parts_listed ts xs) b t n
-    gathered_all b h f =
-        let l = ap (length {A = CountedTerm}) same in
-        let all : take i xs ≡ xs = take_all i xs (omega (arith, l, h)) in
-        subst (λ (x : ℤ). Gathered (parts_listed ts xs) x t n) f (subst (λ (ys : List CountedTerm). Gathered (parts_listed ts ys) k t n) all w)
+    gathered_all b h f = grind (arith, ints, take_all)

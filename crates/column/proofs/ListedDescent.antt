@@ -36,6 +36,4 @@ all_listed P [] f = tt
 all_listed P (c ∷ cs) f = (f c (inl refl), all_listed P cs (λ k i. f k (inr i)))
 
 pub first_of_all : (ts : List Term) → Batchable ts → (xs : List CountedTerm) → first_below (pos 2147483647) (columns (parts_listed ts xs)) ≡ first_column (columns (parts_listed ts xs))
-first_of_all ts l xs =
-    let ps = parts_listed ts xs in
-    first_is (pos 2147483647) (columns ps) (all_listed (λ c. c <ℤ pos 2147483647) (columns ps) (λ k i. occupied_limited ts l.each_limited xs k (columns_occupied ps k i)))
+first_of_all ts l xs = grind (arith, ints, all_listed, columns_occupied, first_is, occupied_limited)

@@ -18,10 +18,7 @@ swap h = grind (arith, ints)
 
 in_from : (k : ℤ) (cs : List ℤ) (x : ℤ) → Listed (with_column k cs) x → (x ≡ k) ⊎ Listed cs x
 in_from k [] x = λ h. h
-in_from k (c ∷ cs) x =
-    cond_both (lt_z c k) (k ∷ c ∷ cs) (cond (lt_z k c) (c ∷ with_column k cs) (c ∷ cs)) (λ l. Listed l x → (x ≡ k) ⊎ Listed (c ∷ cs) x)
-    (λ e i. i)
-    (λ e. cond_both (lt_z k c) (c ∷ with_column k cs) (c ∷ cs) (λ l. Listed l x → (x ≡ k) ⊎ Listed (c ∷ cs) x) (λ f i. swap (either (λ a. a) (in_from k cs x) i)) (λ f i. inr i))
+in_from k (c ∷ cs) x = grind (arith, ints, in_from k cs x)
 
 in_to : (k : ℤ) (cs : List ℤ) (x : ℤ) → (x ≡ k) ⊎ Listed cs x → Listed (with_column k cs) x
 in_to k [] x = λ h. h
@@ -36,24 +33,18 @@ in_to k (c ∷ cs) x =
 
 all_with : (P : ℤ → Type 0) (k : ℤ) (cs : List ℤ) → P k → AllByRecursion P cs → AllByRecursion P (with_column k cs)
 all_with P k [] h a = (h, a)
-all_with P k (c ∷ cs) h a =
-    cond_both (lt_z c k) (k ∷ c ∷ cs) (cond (lt_z k c) (c ∷ with_column k cs) (c ∷ cs)) (AllByRecursion P)
-    (λ e. (h, a))
-    (λ e. cond_both (lt_z k c) (c ∷ with_column k cs) (c ∷ cs) (AllByRecursion P) (λ f. (a.0, all_with P k cs h a.1)) (λ f. a))
+all_with P k (c ∷ cs) h a = grind (arith, ints, all_with P k cs h a.1)
 
 falling_with : (k : ℤ) (cs : List ℤ) → Falling cs → Falling (with_column k cs)
 falling_with k [] d = (tt, tt)
-falling_with k (c ∷ cs) (a, d) =
-    cond_both (lt_z c k) (k ∷ c ∷ cs) (cond (lt_z k c) (c ∷ with_column k cs) (c ∷ cs)) Falling
-    (λ e. ((omega (arith, ints), All-weaker (λ x. x <ℤ c) (λ x. x <ℤ k) (λ x l. omega (arith, ints)) cs a), (a, d)))
-    (λ e. cond_both (lt_z k c) (c ∷ with_column k cs) (c ∷ cs) Falling (λ f. (all_with (λ x. x <ℤ c) k cs (omega (arith, ints)) a, falling_with k cs d)) (λ f. (a, d)))
+falling_with k (c ∷ cs) (a, d) = grind (arith, ints, All-weaker, all_with, falling_with k cs d)
 
 -- ---- a run of columns
 abbrev Run : ℤ → ℕ → ℤ → Type 0
 Run k n x = (k ≤ℤ x) × (x <ℤ (k +ℤ pos n))
 
 run_last : (k : ℤ) (n : ℕ) (x : ℤ) → Run k (suc n) x → (x ≡ k +ℤ pos n) ⊎ Run k n x
-run_last k n x (a, b) = by_lt_z x (k +ℤ pos n) (λ l. inr (a, l)) (λ l. inl (omega (arith, ints)))
+run_last k n x (a, b) = grind (arith, ints)
 
 last_run : (k : ℤ) (n : ℕ) (x : ℤ) → (x ≡ k +ℤ pos n) ⊎ Run k n x → Run k (suc n) x
 last_run k n x (inl e) = (omega (arith, ints), omega (arith, ints))
@@ -64,7 +55,7 @@ regrouped h = grind (arith, ints)
 
 run_from : (k : ℤ) (n : ℕ) (cs : List ℤ) (x : ℤ) → Listed (with_columns k n cs) x → Run k n x ⊎ Listed cs x
 run_from k zero cs x i = inr i
-run_from k (suc n) cs x i = either (last_run k n x) (λ j. j) (regrouped (either (λ e. e) (run_from k n cs x) (in_from (k +ℤ pos n) (with_columns k n cs) x i)))
+run_from k (suc n) cs x i = grind (arith, ints, either, in_from, last_run, regrouped, run_from k n cs x)
 
 run_to : (k : ℤ) (n : ℕ) (cs : List ℤ) (x : ℤ) → Run k n x ⊎ Listed cs x → Listed (with_columns k n cs) x
 run_to k zero cs x (inl (a, b)) = absurd (omega (arith, ints))
@@ -81,10 +72,7 @@ pub floor_is : (z : ℤ) → (column_weight (column_of z) ≤ℤ z) × (z <ℤ c
 floor_is z = grind (arith, ints)
 
 run_occupies : (p : Part) (k : ℤ) → Run (column_of p.weight) (height p) k ↔ Occupies p k
-run_occupies p k =
-    let a = floor_is p.weight in
-    let b = floor_is (top p -ℤ pos 1) in
-    ((λ r. (omega (arith, ints), omega (arith, ints))), (λ o. (omega (arith, ints), omega (arith, ints))))
+run_occupies p k = grind (arith, ints)
 
 pub columns_fall : (ps : List Part) → Falling (columns ps)
 unfolding columns

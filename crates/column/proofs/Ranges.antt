@@ -153,13 +153,9 @@ lowest_low = neg_ℤ (pos 1000004096)
 abbrev pub highest_top : ℤ
 highest_top = pos 1000000000
 
-counted_ranged : (k : Mark) (t : Term) → Limited t → AllByRecursion (Ranged lowest_low highest_top) (counted_part k t)
-counted_ranged k t h = grind (arith, ints)
-
 parts_ranged : (marks : ℕ → Mark) (i : ℕ) (ts : List Term) → AllByRecursion Limited ts → AllByRecursion (Ranged lowest_low highest_top) (parts_from marks i ts)
 parts_ranged marks i [] l = tt
-parts_ranged marks i (t ∷ ts) (h, l) =
-    All-append (Ranged lowest_low highest_top) (counted_part (marks i) t) (parts_from marks (suc i) ts) (counted_ranged (marks i) t h) (parts_ranged marks (suc i) ts l)
+parts_ranged marks i (t ∷ ts) (h, l) = grind (arith, ints, parts_ranged marks (suc i) ts l)
 
 one_counted : (k : Mark) (t : Term) → length (counted_part k t) ≤ 1
 one_counted k t = grind (arith, ints)
@@ -172,10 +168,8 @@ parts_few marks i (t ∷ ts) =
     omega (arith, length-append (counted_part (marks i) t) (parts_from marks (suc i) ts))
 
 pub in_range : AlwaysInRange
-in_range marks ts l =
-    ranged (parts_of marks ts) (parts_regular marks 0 ts l.each_limited) (omega (arith, parts_few marks 0 ts, l.few)) lowest_low highest_top (parts_ranged marks 0 ts l.each_limited) (omega (arith, ints)) (omega (arith, ints))
+in_range marks ts l = grind (arith, ints, parts_few, parts_ranged, parts_regular, ranged)
 
 -- the exponent of the sum of a batch's counted terms lies well within the range
 pub sum_close : (marks : ℕ → Mark) (ts : List Term) → Batchable ts → (lowest_low ≤ℤ exponent (exact_sum (parts_of marks ts))) × (exponent (exact_sum (parts_of marks ts)) ≤ℤ (highest_top +ℤ pos 11))
-sum_close marks ts l =
-    sum_near (parts_of marks ts) (parts_regular marks 0 ts l.each_limited) (omega (arith, parts_few marks 0 ts, l.few)) lowest_low highest_top (parts_ranged marks 0 ts l.each_limited) (omega (arith, ints)) (omega (arith, ints)) (omega (arith, ints)) (omega (arith, ints))
+sum_close marks ts l = grind (arith, ints, parts_few, parts_ranged, parts_regular, sum_near)

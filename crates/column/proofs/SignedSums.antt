@@ -16,8 +16,7 @@ sum_plus f g (p ∷ ps) =
 
 pub sum_scale : (f : Part → ℕ) (k : ℕ) (ps : List Part) → signed_sum (λ p. f p * 2 ^ k) ps ≡ scale (signed_sum f ps) k
 sum_scale f k [] = omega (arith, ints)
-sum_scale f k (p ∷ ps) =
-    ap₂ ◌+ℤ◌ (sym (scale_signed p.negative (f p) k)) (sum_scale f k ps) ∙ sym (scale_plus (signed p.negative (f p)) (signed_sum f ps) k)
+sum_scale f k (p ∷ ps) = grind (arith, ints, scale_plus, scale_signed, sum_scale f k ps)
 
 pub sum_same : (f g : Part → ℕ) (ps : List Part) → AllByRecursion (λ p. f p ≡ g p) ps → signed_sum f ps ≡ signed_sum g ps
 sum_same f g [] h = refl

@@ -12,14 +12,7 @@ use Rattle.column.specs.Parts.{Part, top, units}
 
 -- a cut of a cut
 pub units_coarser : (p : Part) (w v : ℤ) → v ≤ℤ w → units p w ≡ units p v / 2 ^ gap w v
-units_coarser p w v h =
-    let z = lesser p.weight v in
-    let n = p.significand * 2 ^ gap p.weight z in
-    let e : gap w z ≡ gap v z + gap w v = omega (arith, ints) in
-    units_at p.significand p.weight w z (omega (arith, ints)) (omega (arith, ints))
-    ∙ ap (λ (k : ℕ). n / 2 ^ k) e
-    ∙ sym (shr-shr n (gap v z) (gap w v))
-    ∙ ap (λ (k : ℕ). k / 2 ^ gap w v) (sym (units_at p.significand p.weight v z (omega (arith, ints)) (omega (arith, ints))))
+units_coarser p w v h = grind (arith, ints, shr-shr, units_at)
 
 pub units_split : (p : Part) (w v : ℤ) → v ≤ℤ w → units p v ≡ units p w * 2 ^ gap w v + units p v % 2 ^ gap w v
 units_split p w v h = rw (units_coarser p w v h) (sym (split (units p v) (gap w v)))
@@ -44,7 +37,5 @@ Clear w v p = (w ≡ v) ⊎ ((top p ≤ℤ v) ⊎ (w ≤ℤ p.weight))
 
 pub clear_mod : (p : Part) (w v z : ℤ) → z ≤ℤ v → v ≤ℤ w → Clear w v p → units p z % 2 ^ gap w z ≡ units p z % 2 ^ gap v z
 clear_mod p w v z h g (inl e) = ap (λ (x : ℤ). units p z % 2 ^ gap x z) e
-clear_mod p w v z h g (inr (inl t)) =
-    let a = units_small p v z h t in
-    mod-eq_of_lt (lt_of_lt_of_le a (pow_mono (omega (arith, ints)))) ∙ sym (mod-eq_of_lt a)
-clear_mod p w v z h g (inr (inr t)) = units_none p w z (omega (arith, ints)) t ∙ sym (units_none p v z h (omega (arith, ints)))
+clear_mod p w v z h g (inr (inl t)) = grind (arith, ints, lt_of_lt_of_le, mod-eq_of_lt, pow_mono, units_small)
+clear_mod p w v z h g (inr (inr t)) = grind (arith, ints, units_none)

@@ -34,7 +34,7 @@ above_higher x c (y ∷ above) cs a = above_higher x c above cs a.1
 
 -- so the first below a column of the list is the one that follows it
 first_after : (above : List ℤ) (c : ℤ) (cs : List ℤ) → Falling (above ++ (c ∷ cs)) → first_below c (above ++ (c ∷ cs)) ≡ first_column cs
-first_after [] c cs (a, f) = cond_both (lt_z c c) (Some c) (first_below c cs) (λ (r : Option ℤ). r ≡ first_column cs) (λ e. absurd (omega (arith, ints))) (λ e. first_is c cs a)
+first_after [] c cs (a, f) = grind (arith, ints)
 first_after (x ∷ above) c cs (a, f) =
     let l = above_higher x c above cs a in
     cond_both (lt_z x c) (Some x) (first_below c (above ++ (c ∷ cs))) (λ (r : Option ℤ). r ≡ first_column cs) (λ e. absurd (omega (arith, ints))) (λ e. first_after above c cs f)
@@ -44,7 +44,7 @@ next_listed ps c cs (above, e) = ap (first_below c) e ∙ first_after above c cs
 
 -- ---- once alike, always alike
 alike_both : (a b c : Answer) → Alike b a → Alike c a → Alike b c
-alike_both a b c k l = record { values = ≈ᴰ_trans b.value a.value c.value k.values (sym l.values); signs = k.signs ∙ sym l.signs; directions = k.directions ∙ sym l.directions }
+alike_both a b c k l = grind (arith, ints, ≈ᴰ_trans)
 
 pub alike_stays : AlikeStays
 alike_stays u W L m ps s c d ds f k =
