@@ -80,8 +80,7 @@ in_below c (d ∷ ds) k (l, a) (inl e) = omega (arith, ints)
 in_below c (d ∷ ds) k (l, a) (inr i) = in_below c ds k a i
 
 pub in_upto : (c : ℤ) (cs : List ℤ) (k : ℤ) → AllByRecursion (λ d. d <ℤ c) cs → Listed (c ∷ cs) k → k ≤ℤ c
-in_upto c cs k a (inl e) = omega (arith, ints)
-in_upto c cs k a (inr i) = let l = in_below c cs k a i in omega (arith, ints)
+in_upto c cs k h g = grind (arith, ints, in_below)
 
 pub in_rest : (c : ℤ) (cs : List ℤ) (k : ℤ) → k <ℤ c → Listed (c ∷ cs) k → Listed cs k
 in_rest c cs k h g = grind (arith, ints)

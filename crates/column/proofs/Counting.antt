@@ -76,15 +76,10 @@ module _ (ts : List Term) (marks : ℕ → Mark) (i : ℕ) (h : i < length ts) w
 
 -- ---- no part is 0
 regular_not_zero : (t : Term) → Limited t → Regular (regular_part t)
-regular_not_zero not_a_number l = tt
-regular_not_zero (infinite s) l = tt
-regular_not_zero (signed_zero s) l = tt
-regular_not_zero (regular s m q) l = (pos_of_size m l.some_digit, tt)
+regular_not_zero t h = grind (arith, ints, pos_of_size)
 
 counted_regular : (k : Mark) (t : Term) → Limited t → Regular (counted_part k t)
-counted_regular Out t l = tt
-counted_regular In t l = regular_not_zero t l
-counted_regular Turned t l = All-map (λ p. 0 < p.significand) turned (regular_part t) (regular_not_zero t l)
+counted_regular k t h = grind (arith, ints, All-map, regular_not_zero)
 
 pub parts_regular : (marks : ℕ → Mark) (i : ℕ) (ts : List Term) → AllByRecursion Limited ts → Regular (parts_from marks i ts)
 parts_regular marks i [] l = tt

@@ -28,8 +28,7 @@ upper_clear ps w v z h g c =
     ∙ ap (λ (n : ℤ). n +ℤ signed_sum (λ p. units p z % 2 ^ gap v z) ps) (sum_scale (λ p. units p w) d ps)
 
 rest_by : (p : Part) (w v z : ℤ) → z ≤ℤ v → v ≤ℤ w → (t : Bool) → lt_z p.weight w ≡ t → units p z % 2 ^ gap v z ≤ cond t 1 0 * (2 ^ gap v z - 1)
-rest_by p w v z h g true e = let l = mod-lt (units p z) (pow_pos (gap v z)) in omega arith
-rest_by p w v z h g false e = let l = units_none p v z h (omega (arith, ints)) in omega arith
+rest_by p w v z h g t k1 = grind (arith, ints, mod-lt, pow_pos, units_none)
 
 pub rest_within : (ps : List Part) (w v z : ℤ) → z ≤ℤ v → v ≤ℤ w
     → (neg_ℤ (pos (reaching_below ps w * (2 ^ gap v z - 1))) ≤ℤ signed_sum (λ p. units p z % 2 ^ gap v z) ps) × (signed_sum (λ p. units p z % 2 ^ gap v z) ps ≤ℤ pos (reaching_below ps w * (2 ^ gap v z - 1)))

@@ -38,9 +38,7 @@ module _ (u : ℤ → ℤ) (m : Mode) (ps : List Part) where
   last_alike c = alike_refl (rounded u m (upper_end ps c []))
 
   later : (c : ℤ) (cs : List ℤ) (j : ℕ) → AlikeAt u m ps cs j → AlikeAt u m ps (c ∷ cs) (suc j)
-  later c [] j h = elim h [ ]
-  later c (d ∷ ds) zero h = elim h [ ]
-  later c (d ∷ ds) (suc j) h = h
+  later c cs j h = grind (arith, ints)
 
   abbrev Here : List ℤ → ℕ → Type 0
   Here cs j = AlikeAt u m ps cs j × (j ≤ length cs)

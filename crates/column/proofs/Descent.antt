@@ -21,16 +21,10 @@ module _ (low top below : ℤ) where
   candidate = int_min (column_of (top -ℤ pos 1)) (below -ℤ pos 1)
 
   pub none_spanned : candidate <ℤ column_of low → Highest below (Spans low top) None
-  none_spanned h k (a, b) l =
-      let f = floor_is low in
-      let t = floor_is (top -ℤ pos 1) in
-      omega (arith, ints, clamps)
+  none_spanned h k (a, b) l = omega (arith, ints, clamps, floor_is low, floor_is (top -ℤ pos 1))
 
   pub some_spanned : (c : ℤ) → c ≡ candidate → column_of low ≤ℤ c → Highest below (Spans low top) (Some c)
-  some_spanned c e h =
-      let f = floor_is low in
-      let t = floor_is (top -ℤ pos 1) in
-      ((omega (arith, ints, clamps), omega (arith, ints, clamps)), omega (arith, ints, clamps), λ k s l. omega (arith, ints, clamps))
+  some_spanned c e h = omega (arith, ints, clamps, floor_is low, floor_is (top -ℤ pos 1))
 
   pub spanned_is : Highest below (Spans low top) (highest_spanned low top below)
   spanned_is = grind (arith, ints, none_spanned, some_spanned)
@@ -38,22 +32,15 @@ module _ (low top below : ℤ) where
 -- ---- the highest of two sorts of columns
 module _ (b : ℤ) where
   pub highest_either : (P Q : ℤ → Type 0) (r s : Option ℤ) → Highest b P r → Highest b Q s → Highest b (λ k. P k ⊎ Q k) (higher r s)
-  highest_either P Q None None h g = λ k o l. elim o [ inl p ↦ h k p l | inr q ↦ g k q l ]
-  highest_either P Q None (Some d) h (q, l, m) = grind (arith, ints)
-  highest_either P Q (Some c) None (p, l, m) g = grind (arith, ints)
-  highest_either P Q (Some c) (Some d) (p, l, m) (q, l', m') = grind (arith, ints, clamps)
+  highest_either P Q r s h g = grind (arith, ints, clamps)
 
   -- there is but one highest
   pub highest_unique : (P : ℤ → Type 0) (r s : Option ℤ) → Highest b P r → Highest b P s → r ≡ s
-  highest_unique P None None h g = refl
-  highest_unique P None (Some d) h (q, l, m) = absurd (h d q l)
-  highest_unique P (Some c) None (p, l, m) g = absurd (g c p l)
-  highest_unique P (Some c) (Some d) (p, l, m) (q, l', m') = grind (arith, ints)
+  highest_unique P r s h g = grind (arith, ints)
 
   -- the same of columns that are the same
   pub highest_same : (P Q : ℤ → Type 0) (r : Option ℤ) → ((k : ℤ) → P k → Q k) → ((k : ℤ) → Q k → P k) → Highest b P r → Highest b Q r
-  highest_same P Q None f g h = λ k q l. h k (g k q) l
-  highest_same P Q (Some c) f g (p, l, m) = (f c p, l, λ k q n. m k (g k q) n)
+  highest_same P Q r h g k1 = grind (arith, ints)
 
   -- the first of a falling list below the limit
   pub highest_listed : (cs : List ℤ) → Falling cs → Highest b (Listed cs) (first_below b cs)

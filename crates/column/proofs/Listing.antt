@@ -47,8 +47,7 @@ run_last : (k : ℤ) (n : ℕ) (x : ℤ) → Run k (suc n) x → (x ≡ k +ℤ p
 run_last k n x (a, b) = grind (arith, ints)
 
 last_run : (k : ℤ) (n : ℕ) (x : ℤ) → (x ≡ k +ℤ pos n) ⊎ Run k n x → Run k (suc n) x
-last_run k n x (inl e) = (omega (arith, ints), omega (arith, ints))
-last_run k n x (inr (a, b)) = (a, omega (arith, ints))
+last_run k n x h = grind (arith, ints)
 
 pub regrouped : {A B C : Type 0} → A ⊎ (B ⊎ C) → (A ⊎ B) ⊎ C
 regrouped h = grind (arith, ints)

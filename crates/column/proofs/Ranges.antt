@@ -162,10 +162,7 @@ one_counted k t = grind (arith, ints)
 
 pub parts_few : (marks : ℕ → Mark) (i : ℕ) (ts : List Term) → length (parts_from marks i ts) ≤ length ts
 parts_few marks i [] = omega arith
-parts_few marks i (t ∷ ts) =
-    let a = one_counted (marks i) t in
-    let b = parts_few marks (suc i) ts in
-    omega (arith, length-append (counted_part (marks i) t) (parts_from marks (suc i) ts))
+parts_few marks i (t ∷ ts) = grind (arith, ints, one_counted (marks i) t, parts_few marks (suc i) ts)
 
 pub in_range : AlwaysInRange
 in_range marks ts l = grind (arith, ints, parts_few, parts_ranged, parts_regular, ranged)
