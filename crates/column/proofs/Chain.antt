@@ -53,7 +53,7 @@ none_of (p ∷ ps) c (h, s) none' = grind (arith, ints, part_none, none_of ps c 
 
 top_of : (ps : List Part) (c : ℤ) → Regular ps → ((k : ℤ) → Occupied ps k → k ≤ℤ c) → AllByRecursion (λ p. top p ≤ℤ column_weight (c +ℤ pos 1)) ps
 top_of [] c s none' = tt
-top_of (p ∷ ps) c (h, s) none' = (part_top p c h (λ k o. none' k (inl o)), top_of ps c s (λ k o. none' k (inr o)))
+top_of (p ∷ ps) c (h, s) none' = grind (arith, ints, part_top, top_of ps c s)
 
 -- ---- a column and those below it
 -- all that the columns below c hold lies below this weight, where cs are those columns

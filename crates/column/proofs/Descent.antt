@@ -45,19 +45,10 @@ module _ (b : ℤ) where
   -- the first of a falling list below the limit
   pub highest_listed : (cs : List ℤ) → Falling cs → Highest b (Listed cs) (first_below b cs)
   highest_listed [] f = λ k i l. i
-  highest_listed (c ∷ cs) (a, f) =
-      cond_both (lt_z c b) (Some c) (first_below b cs) (Highest b (Listed (c ∷ cs)))
-      (λ e. (inl refl, omega (arith, ints), λ k i l. elim i [ inl q ↦ omega (arith, ints) | inr j ↦ (let z = in_below c cs k a j in omega (arith, ints)) ]))
-      (λ e. later (first_below b cs) (omega (arith, ints)) (highest_listed cs f))
-    where
-      later : (r : Option ℤ) → b ≤ℤ c → Highest b (Listed cs) r → Highest b (Listed (c ∷ cs)) r
-      later None g h = λ k i l. elim i [ inl q ↦ omega (arith, ints) | inr j ↦ h k j l ]
-      later (Some d) g (i, l, m) = (inr i, l, λ k j n. elim j [ inl q ↦ absurd (omega (arith, ints)) | inr j' ↦ m k j' n ])
+  highest_listed (c ∷ cs) (a, f) = grind (arith, ints, in_below c cs, highest_listed cs f)
 
   pub first_below_is : (ps : List Part) (r : Option ℤ) → Highest b (Occupied ps) r → r ≡ first_below b (columns ps)
-  first_below_is ps r h =
-      highest_unique (Occupied ps) r (first_below b (columns ps)) h
-      (highest_same (Listed (columns ps)) (Occupied ps) (first_below b (columns ps)) (columns_occupied ps) (occupied_columns ps) (highest_listed (columns ps) (columns_fall ps)))
+  first_below_is ps r h = grind (arith, ints, highest_unique, columns_occupied, occupied_columns, highest_listed (columns ps) (columns_fall ps))
 
 -- where all lie below the limit, the first below it is the first
 pub first_is : (b : ℤ) (cs : List ℤ) → AllByRecursion (λ c. c <ℤ b) cs → first_below b cs ≡ first_column cs
@@ -84,13 +75,11 @@ module _ {X : Type 0} (b : ℤ) (part_at : X → Part) (h : X → Option ℤ) (e
 
   greatest_more : (P : ℤ → Type 0) (a : ℤ) (x : X) (xs : List X) → Highest b P (Some a) → ((Q : ℤ → Type 0) (c : ℤ) → Highest b Q (Some c) → Highest b (Or Q xs) (from c xs))
       → (r : Option ℤ) → Highest b (Occupies (part_at x)) r → Highest b (Or P (x ∷ xs)) (Some (fold picked a (cons_option r (filter_map h xs))))
-  greatest_more P a x xs m further None n =
-      highest_same b (λ k. Occupies (part_at x) k ⊎ Or P xs k) (Or P (x ∷ xs)) (from a xs) (λ k. swap) (λ k. swap)
-      (highest_either b (Occupies (part_at x)) (Or P xs) None (from a xs) n (further P a m))
+  greatest_more P a x xs m further None n = grind (arith, ints, further P a m)
   greatest_more P a x xs m further (Some c) n =
       let both = λ (k : ℤ). P k ⊎ Occupies (part_at x) k in
       let two : Highest b both (Some (picked a c)) = subst (λ (z : ℤ). Highest b both (Some z)) (picked_is a c) (highest_either b P (Occupies (part_at x)) (Some a) (Some c) m n) in
-      highest_same b (Or both xs) (Or P (x ∷ xs)) (from (picked a c) xs) (λ k. ungrouped) (λ k. regrouped) (further both (picked a c) two)
+      grind (arith, ints, further both (picked a c) two)
 
   greatest_from : (xs : List X) (P : ℤ → Type 0) (a : ℤ) → Highest b P (Some a) → Highest b (Or P xs) (from a xs)
   greatest_from [] P a m = grind (arith, ints)

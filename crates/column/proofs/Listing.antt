@@ -22,14 +22,7 @@ in_from k (c ∷ cs) x = grind (arith, ints, in_from k cs x)
 
 in_to : (k : ℤ) (cs : List ℤ) (x : ℤ) → (x ≡ k) ⊎ Listed cs x → Listed (with_column k cs) x
 in_to k [] x = λ h. h
-in_to k (c ∷ cs) x =
-    cond_both (lt_z c k) (k ∷ c ∷ cs) (cond (lt_z k c) (c ∷ with_column k cs) (c ∷ cs)) (λ l. (x ≡ k) ⊎ Listed (c ∷ cs) x → Listed l x)
-    (λ e i. i)
-    (λ e. cond_both (lt_z k c) (c ∷ with_column k cs) (c ∷ cs) (λ l. (x ≡ k) ⊎ Listed (c ∷ cs) x → Listed l x) (λ f i. either (λ a. a) (in_to k cs x) (swap i)) (λ f. same (omega (arith, ints))))
-  where
-    same : k ≡ c → (x ≡ k) ⊎ Listed (c ∷ cs) x → Listed (c ∷ cs) x
-    same q (inl e) = inl (e ∙ q)
-    same q (inr i) = i
+in_to k (c ∷ cs) x = grind (arith, ints, in_to k cs x)
 
 all_with : (P : ℤ → Type 0) (k : ℤ) (cs : List ℤ) → P k → AllByRecursion P cs → AllByRecursion P (with_column k cs)
 all_with P k [] h a = (h, a)
@@ -54,13 +47,11 @@ regrouped h = grind (arith, ints)
 
 run_from : (k : ℤ) (n : ℕ) (cs : List ℤ) (x : ℤ) → Listed (with_columns k n cs) x → Run k n x ⊎ Listed cs x
 run_from k zero cs x i = inr i
-run_from k (suc n) cs x i = grind (arith, ints, either, in_from, last_run, regrouped, run_from k n cs x)
+run_from k (suc n) cs x i = grind (arith, ints, in_from, run_from k n cs x)
 
 run_to : (k : ℤ) (n : ℕ) (cs : List ℤ) (x : ℤ) → Run k n x ⊎ Listed cs x → Listed (with_columns k n cs) x
-run_to k zero cs x (inl (a, b)) = absurd (omega (arith, ints))
-run_to k zero cs x (inr i) = i
-run_to k (suc n) cs x (inl r) = in_to (k +ℤ pos n) (with_columns k n cs) x (either (λ e. e) (λ s. run_to k n cs x (inl s)) (run_last k n x r))
-run_to k (suc n) cs x (inr i) = in_to (k +ℤ pos n) (with_columns k n cs) x (inr (run_to k n cs x (inr i)))
+run_to k zero cs x i = grind (arith, ints)
+run_to k (suc n) cs x i = grind (arith, ints, in_to, run_to k n cs x)
 
 falling_run : (k : ℤ) (n : ℕ) (cs : List ℤ) → Falling cs → Falling (with_columns k n cs)
 falling_run k zero cs d = d
@@ -81,9 +72,9 @@ columns_fall (p ∷ ps) = falling_run (column_of p.weight) (height p) (columns p
 pub columns_occupied : (ps : List Part) (k : ℤ) → Listed (columns ps) k → Occupied ps k
 unfolding columns
 columns_occupied [] k i = i
-columns_occupied (p ∷ ps) k i = either (run_occupies p k).0 (columns_occupied ps k) (run_from (column_of p.weight) (height p) (columns ps) k i)
+columns_occupied (p ∷ ps) k i = grind (arith, ints, run_occupies, columns_occupied ps k, run_from)
 
 pub occupied_columns : (ps : List Part) (k : ℤ) → Occupied ps k → Listed (columns ps) k
 unfolding columns
 occupied_columns [] k i = i
-occupied_columns (p ∷ ps) k i = run_to (column_of p.weight) (height p) (columns ps) k (either (run_occupies p k).1 (occupied_columns ps k) i)
+occupied_columns (p ∷ ps) k i = grind (arith, ints, run_occupies, occupied_columns ps k, run_to)

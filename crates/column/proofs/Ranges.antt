@@ -67,8 +67,7 @@ pub record Ranged (l t : ℤ) (p : Part) : Type 0 where
 
 occupied_in : (ps : List Part) (l t k : ℤ) → AllByRecursion (Ranged l t) ps → Occupied ps k → (l <ℤ column_weight (k +ℤ pos 1)) × (column_weight k <ℤ t)
 occupied_in [] l t k a o = absurd o
-occupied_in (p ∷ ps) l t k (r, a) (inl o) = (omega (arith, ints), omega (arith, ints))
-occupied_in (p ∷ ps) l t k (r, a) (inr o) = occupied_in ps l t k a o
+occupied_in (p ∷ ps) l t k (r, a) o = grind (arith, ints, occupied_in ps l t k a)
 
 listed_occupied : (ps : List Part) (cs : List ℤ) → DownFrom ps cs → (k : ℤ) → Listed cs k → Occupied ps k
 listed_occupied ps cs (above, e) k i = columns_occupied ps k (subst (λ (l : List ℤ). Listed l k) (sym e) (further above))

@@ -1,5 +1,5 @@
 -- The walk from the first column down to the depth.
-use Rattle.std.proofs.Common.{◌≡◌, false, List, [], ◌∷◌, ◌++◌, ℤ, ◌<ℤ◌, Some, Option, sym, refl, ap, ◌∙◌, subst, ⊎_elim, arith}
+use Rattle.std.proofs.Common.{◌≡◌, false, List, [], ◌∷◌, ◌++◌, ℤ, ◌<ℤ◌, Some, Option, sym, refl, ap, append_assoc, ◌∙◌, subst, ⊎_elim, arith}
 use lib.Signed.{lt_z}
 use borrow.Author.Differences.{ints}
 use Rattle.std.specs.List.{AllByRecursion}
@@ -21,11 +21,7 @@ use Rattle.column.proofs.Descent.{first_is}
 
 -- ---- the columns to come
 pub from_next : (ps : List Part) (c : ℤ) (cs : List ℤ) → DownFrom ps (c ∷ cs) → DownFrom ps cs
-from_next ps c cs (above, e) = (above ++ (c ∷ []), e ∙ moved above)
-  where
-    moved : (above : List ℤ) → above ++ (c ∷ cs) ≡ (above ++ (c ∷ [])) ++ cs
-    moved [] = refl
-    moved (x ∷ above) = ap (λ (l : List ℤ). x ∷ l) (moved above)
+from_next ps c cs (above, e) = (above ++ (c ∷ []), e ∙ sym (append_assoc above (c ∷ []) cs))
 
 -- what stands above a column in a falling list lies above it
 above_higher : (x c : ℤ) (above cs : List ℤ) → AllByRecursion (λ d. d <ℤ x) (above ++ (c ∷ cs)) → c <ℤ x
