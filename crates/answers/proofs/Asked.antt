@@ -1,13 +1,11 @@
 -- What is known of an ask that was answered: its mode, that there are limbs enough, and which answer it is.
-use Rattle.std.proofs.Common.{◌≡◌, ℕ, ◌≤◌, Bool, true, false, cond, ltb, length, Some, None, Option, refl, arith, ltb-false}
+use Rattle.std.proofs.Common.{◌≡◌, ℕ, ◌≤◌, Some, Option, arith}
 use borrow.Author.Differences.{ints}
 use Rattle.grid.specs.Rounding.{Mode, mode_numbered}
 use Rattle.limbs.specs.Bits.{limbs_for}
-use Rattle.sheet.specs.Numbers.{Refusal, refused_by}
 use Rattle.sheet.specs.declared.mark.Mark.{Mark}
-use Rattle.survey.specs.Places.{lowest_marked}
 use Rattle.answers.specs.Published.{Published, answer}
-use Rattle.answers.specs.Asked.{Question, Reply, refused, answered, reply_past, reply_in_mode, asked}
+use Rattle.answers.specs.Asked.{Question, answered, asked}
 
 pub record Answered (marks : ℕ → Mark) (q : Question) (o : Option Mode) (a : Published) : Type 0 where
   pub mode : Mode

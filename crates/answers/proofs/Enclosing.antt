@@ -15,7 +15,6 @@ use Rattle.survey.specs.Kinds.{class_of_sum}
 use Rattle.survey.specs.declared.class.SumClass.TheVariants.{Number}
 use Rattle.column.specs.Parts.{exact_sum}
 use Rattle.column.specs.PartsOf.{parts_of}
-use Rattle.column.specs.Depth.{depth}
 use Rattle.answers.specs.Published.{Published, answer}
 use Rattle.answers.specs.Asked.{Question}
 use Rattle.answers.specs.Laws.{answer_value, sum_asked, Proper, Twins, AnswersEnclose}

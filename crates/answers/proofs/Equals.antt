@@ -1,7 +1,6 @@
 -- Equal numbers stand in the same order and at the same distance from others, and are neighbours of the same numbers.
-use Rattle.std.proofs.Common.{◌≡◌, Bool, true, false, ℤ, pos, ◌-ℤ◌, nat_abs, sym, refl, ap, ◌∙◌, arith}
+use Rattle.std.proofs.Common.{ℤ, pos, ◌-ℤ◌, nat_abs, sym, ap, ◌∙◌, arith}
 use borrow.Author.Differences.{ints}
-use Rattle.exact.specs.Integers.{is_negative}
 use Rattle.exact.specs.Dyadic.{Dyadic, dyadic, at, ◌≤ᴰ◌, ◌<ᴰ◌, ◌≈ᴰ◌, distance, exponent}
 use Rattle.exact.proofs.Scaling.{below_three}
 use Rattle.exact.proofs.Order.{at_le, le_at, at_lt, lt_at, at_same, same_at, ≈ᴰ_trans}

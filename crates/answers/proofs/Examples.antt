@@ -1,5 +1,5 @@
 -- The worked entries come out as written.
-use Rattle.std.proofs.Common.{refl, arith}
+use Rattle.std.proofs.Common.{arith}
 use borrow.Author.Differences.{ints}
 use Rattle.exact.specs.Dyadic.{total}
 use Rattle.grid.specs.Rounding.{rounded}

@@ -1,12 +1,9 @@
 -- What an answer is made of: where only finite terms count it is the exact sum, rounded once, and its depth.
-use Rattle.std.proofs.Common.{◌≡◌, ℕ, ◌≤◌, Bool, true, false, eqb, List, ℤ, pos, nat_abs, sym, refl, ap, ◌∙◌, subst, inl, ⊎_elim, arith, eqb-true}
+use Rattle.std.proofs.Common.{◌≡◌, ℕ, ◌≤◌, Bool, true, false, eqb, List, ℤ, pos, sym, refl, ap, ◌∙◌, inl, ⊎_elim, arith}
 use borrow.Author.Differences.{ints}
-use borrow.Author.Tests.{eqb-false}
 use Rattle.std.proofs.lemmas.Bool.{cond_both}
-use Rattle.exact.specs.Integers.{signed, gap, scale}
+use Rattle.exact.specs.Integers.{signed, gap}
 use Rattle.exact.specs.Dyadic.{Dyadic, ◌≈ᴰ◌, Nonzero, exponent}
-use Rattle.exact.proofs.Integers.{abs_none}
-use Rattle.exact.proofs.Scaling.{zero_scale}
 use Rattle.grid.specs.Spacing.{Lawful}
 use Rattle.grid.specs.Rounding.{Mode, Answer, rounded}
 use Rattle.grid.proofs.Outcomes.{exact}
@@ -21,9 +18,8 @@ use Rattle.column.specs.PartsOf.{parts_of}
 use Rattle.column.specs.Depth.{depth}
 use Rattle.column.proofs.Ranges.{sum_close}
 use Rattle.survey.specs.Kinds.{class_of_sum, zero_negative, has, counted_kinds}
-use Rattle.survey.specs.declared.class.SumClass.{SumClass}
 use Rattle.survey.specs.declared.class.SumClass.TheVariants.{Number}
-use Rattle.answers.specs.Published.{Published, plain, is_zero, is_downward, regular_answer, rounded_answer, finite_answer, answer_of_class, answer}
+use Rattle.answers.specs.Published.{Published, plain, is_zero, is_downward, regular_answer, rounded_answer, finite_answer, answer}
 use Rattle.answers.specs.Laws.{answer_value}
 use Rattle.answers.proofs.Equals.{wanted_on}
 use Rattle.answers.proofs.LimbLists.{value_of_none}

@@ -1,5 +1,5 @@
 -- The law over traces: it holds of the empty one, and goes on with each call.
-use Rattle.std.proofs.Common.{◌≡◌, ℕ, Bool, true, false, cond, ◌⊎◌, List, [], ◌∷◌, ◌++◌, sym, refl, ap, ◌∙◌, subst, inl, inr, ⊎_elim, arith}
+use Rattle.std.proofs.Common.{◌≡◌, ℕ, Bool, cond, ◌⊎◌, List, [], ◌∷◌, ◌++◌, sym, refl, ap, ◌∙◌, subst, inl, inr, ⊎_elim, arith}
 use borrow.Author.Differences.{ints}
 use mathlib.Core.Path.{fun_ext}
 use Rattle.sheet.specs.Numbers.{Refusal, refused_by}

@@ -1,20 +1,19 @@
 -- The list of the counted terms grows with each place as the parts do.
-use Rattle.std.proofs.Common.{◌≡◌, ℕ, suc, ◌+◌, ◌<◌, Bool, true, false, ◌==◌, List, [], ◌∷◌, ◌++◌, map, length, get_or, take, pos, sym, refl, ap, ◌∙◌, ap₂, append_assoc, append-nil, arith}
+use Rattle.std.proofs.Common.{◌≡◌, ℕ, suc, ◌+◌, ◌<◌, Bool, true, false, ◌==◌, List, [], ◌∷◌, ◌++◌, map, length, get_or, take, pos, sym, ap, ◌∙◌, ap₂, append_assoc, append-nil, arith}
 use borrow.Author.Differences.{ints}
 use Rattle.std.specs.List.{AllByRecursion}
 use Rattle.std.proofs.ByRecursion.{All-map, All-append}
 use Rattle.std.proofs.lemmas.List.{take_more, get_or-map, map-append, length-take-le}
 use Rattle.exact.proofs.BitLength.{pos_of_size}
-use Rattle.batch.specs.Term.{Term, not_a_number, infinite, signed_zero, regular, Limited}
+use Rattle.batch.specs.Term.{Term, not_a_number, Limited}
 use Rattle.batch.specs.TermKinds.{kind_of, kind_number, kind_is_regular}
 use Rattle.batch.specs.Lookup.{kind_of_term}
 use Rattle.batch.specs.declared.kind.Kind.{Kind}
 use Rattle.batch.specs.declared.kind.Kind.TheVariants.{Absent}
 use Rattle.sheet.specs.declared.mark.Mark.{Mark}
-use Rattle.sheet.specs.declared.mark.Mark.TheVariants.{Out, In, Turned}
 use Rattle.column.specs.declared.term.CountedTerm.{CountedTerm}
 use Rattle.column.specs.Parts.{Part, part, Regular}
-use Rattle.column.specs.PartsOf.{regular_part, turned, counted_part, parts_from, parts_of}
+use Rattle.column.specs.PartsOf.{regular_part, counted_part, parts_from, parts_of}
 use Rattle.survey.specs.Kinds.{counted_kind}
 use Rattle.column.specs.Listed.{signed_part, listed_part, parts_listed}
 

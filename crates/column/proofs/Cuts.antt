@@ -1,10 +1,10 @@
 -- The sums at two weights, and the ends around the exact sum.
-use Rattle.std.proofs.Common.{◌≡◌, ℕ, ◌+◌, ◌-◌, ◌*◌, ◌%◌, ◌^◌, ◌<◌, ◌≤◌, Bool, true, false, cond, List, [], ◌∷◌, map, ℤ, pos, ◌+ℤ◌, neg_ℤ, ◌≤ℤ◌, ◌<ℤ◌, sym, refl, ap, ◌∙◌, subst, ap₂, mod-lt, mod-eq_of_lt, mul-le-mul_left, arith, pow_pos}
+use Rattle.std.proofs.Common.{◌≡◌, ℕ, ◌+◌, ◌-◌, ◌*◌, ◌%◌, ◌^◌, ◌<◌, ◌≤◌, Bool, cond, List, [], ◌∷◌, map, ℤ, pos, ◌+ℤ◌, neg_ℤ, ◌≤ℤ◌, ◌<ℤ◌, sym, refl, ap, ◌∙◌, subst, mod-lt, mod-eq_of_lt, mul-le-mul_left, arith, pow_pos}
 use lib.Signed.{lt_z}
 use borrow.Author.Differences.{ints}
 use Rattle.std.specs.List.{AllByRecursion}
 use Rattle.std.proofs.ByRecursion.{All-weaker}
-use Rattle.exact.specs.Integers.{signed, gap, lesser, scale}
+use Rattle.exact.specs.Integers.{gap, lesser, scale}
 use Rattle.exact.specs.Dyadic.{Dyadic, dyadic, at, plus, ◌≤ᴰ◌}
 use Rattle.exact.proofs.Scaling.{scale_neg, scale_signed}
 use Rattle.exact.proofs.Order.{le_at}

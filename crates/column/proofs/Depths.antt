@@ -1,8 +1,8 @@
 -- The depth, and what the exact sum rounds to there.
-use Rattle.std.proofs.Common.{◌≡◌, ℕ, zero, suc, ◌≤◌, Bool, true, false, ◌&&◌, List, [], ◌∷◌, length, ℤ, pos, sym, refl, subst, inl, arith}
+use Rattle.std.proofs.Common.{◌≡◌, ℕ, zero, suc, ◌≤◌, true, List, [], ◌∷◌, length, ℤ, pos, refl, subst, inl, arith}
 use borrow.Author.Differences.{ints}
-use Rattle.std.proofs.lemmas.Bool.{and_parts, both_ways, cond_both}
-use Rattle.exact.specs.Dyadic.{dyadic, at, total}
+use Rattle.std.proofs.lemmas.Bool.{both_ways, cond_both}
+use Rattle.exact.specs.Dyadic.{dyadic, total}
 use Rattle.exact.proofs.BitLength.{size_pos}
 use Rattle.grid.specs.Rounding.{Mode, rounded, Answer, Alike}
 use Rattle.grid.proofs.Everywhere.{LawsEverywhere, laws_everywhere}
@@ -10,7 +10,7 @@ use Rattle.grid.proofs.Monotone.{between, alike_refl}
 use Rattle.column.specs.Parts.{Part, Regular, exact_sum}
 use Rattle.column.specs.Columns.{Occupies, column_of, columns, Listed}
 use Rattle.column.specs.Ends.{lower_end, upper_end}
-use Rattle.column.specs.Depth.{same_integer, same_sign, alike, ends_alike, depth_in, answer_in, depth, answer, AlikeAt}
+use Rattle.column.specs.Depth.{alike, ends_alike, depth_in, answer_in, depth, answer, AlikeAt}
 use Rattle.column.specs.Claims.{SumSettled, DepthExists, DepthOfNone, AnswerRight}
 use Rattle.column.proofs.Listing.{floor_is, occupied_columns}
 use Rattle.column.proofs.Chain.{Link, Chain, chain}

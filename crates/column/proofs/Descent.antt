@@ -1,17 +1,14 @@
 -- The next occupied column below a given one, and the first of all.
-use Rattle.std.proofs.Common.{◌≡◌, cond, ◌⊎◌, List, [], ◌∷◌, map, ℤ, pos, ◌-ℤ◌, ◌≤ℤ◌, ◌<ℤ◌, Some, None, Option, refl, ap, subst, inl, inr, arith}
-use lib.Signed.{lt_z}
+use Rattle.std.proofs.Common.{◌≡◌, ◌⊎◌, List, [], ◌∷◌, map, ℤ, pos, ◌-ℤ◌, ◌≤ℤ◌, ◌<ℤ◌, Some, None, Option, subst, arith}
 use borrow.Author.Differences.{ints}
 use Rattle.std.specs.Int.{int_max, int_min}
 use Rattle.std.specs.List.{AllByRecursion, filter_map, cons_option, fold, reduce}
 use Rattle.std.specs.Ordering.{int_cmp, max_by_ordering}
-use Rattle.std.proofs.lemmas.Int.{by_lt_z, clamps}
-use Rattle.std.proofs.lemmas.Bool.{cond_both}
-use Rattle.std.specs.declared.cmp.Ordering.TheVariants.{Less, Equal, Greater}
+use Rattle.std.proofs.lemmas.Int.{clamps}
 use Rattle.column.specs.Parts.{Part}
 use Rattle.column.specs.Columns.{Spans, Occupies, Occupied, column_of, columns, Falling, Listed}
 use Rattle.column.specs.Walk.{first_column, first_below, Highest, higher, highest_spanned}
-use Rattle.column.proofs.Listing.{swap, regrouped, floor_is, columns_fall, columns_occupied, occupied_columns}
+use Rattle.column.proofs.Listing.{floor_is, columns_fall, columns_occupied, occupied_columns}
 use Rattle.column.proofs.Chain.{in_below}
 
 -- ---- the columns that some weights lie in
@@ -38,10 +35,6 @@ module _ (b : ℤ) where
   pub highest_unique : (P : ℤ → Type 0) (r s : Option ℤ) → Highest b P r → Highest b P s → r ≡ s
   highest_unique P r s h g = grind (arith, ints)
 
-  -- the same of columns that are the same
-  pub highest_same : (P Q : ℤ → Type 0) (r : Option ℤ) → ((k : ℤ) → P k → Q k) → ((k : ℤ) → Q k → P k) → Highest b P r → Highest b Q r
-  highest_same P Q r h g k1 = grind (arith, ints)
-
   -- the first of a falling list below the limit
   pub highest_listed : (cs : List ℤ) → Falling cs → Highest b (Listed cs) (first_below b cs)
   highest_listed [] f = λ k i l. i
@@ -61,9 +54,6 @@ picked p z = max_by_ordering (int_cmp p z) p z
 
 picked_is : (p z : ℤ) → int_max p z ≡ picked p z
 picked_is p z = grind (arith, ints)
-
-ungrouped : {A B C : Type 0} → (A ⊎ B) ⊎ C → A ⊎ (B ⊎ C)
-ungrouped h = grind (arith, ints)
 
 module _ {X : Type 0} (b : ℤ) (part_at : X → Part) (h : X → Option ℤ) (each : (x : X) → Highest b (Occupies (part_at x)) (h x)) where
   -- the greatest of a list of columns, from one on

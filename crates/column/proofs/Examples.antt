@@ -1,5 +1,5 @@
 -- The worked examples hold: each list of columns and each depth is computed.
-use Rattle.std.proofs.Common.{refl, arith}
+use Rattle.std.proofs.Common.{arith}
 use borrow.Author.Differences.{ints}
 use Rattle.grid.specs.Rounding.{rounded}
 use Rattle.column.specs.Columns.{columns}

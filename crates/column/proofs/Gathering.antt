@@ -1,13 +1,12 @@
 -- A column's total and count, one listed term after the other.
-use Rattle.std.proofs.Common.{◌≡◌, ℕ, ◌+◌, ◌^◌, ◌<◌, ◌≤◌, Bool, cond, List, [], ◌∷◌, ◌++◌, map, length, get_or, take, ℤ, pos, ◌+ℤ◌, nat_abs, sym, ap, ◌∙◌, ap₂, subst, mod-lt, arith, pow_pos, w64, SFits, to_z, of_z}
+use Rattle.std.proofs.Common.{◌≡◌, ℕ, ◌+◌, ◌^◌, ◌<◌, ◌≤◌, Bool, cond, List, [], ◌∷◌, ◌++◌, map, length, get_or, take, ℤ, pos, ◌+ℤ◌, nat_abs, sym, ap, ◌∙◌, ap₂, arith, w64, SFits, to_z, of_z}
 use lib.Signed.{lt_z}
 use borrow.Author.Differences.{ints}
 use Rattle.std.proofs.lemmas.List.{take_more, take_all, length-map, length-take-le, map-append}
 use Rattle.exact.specs.Integers.{signed}
-use Rattle.exact.proofs.Integers.{signed_within}
 use Rattle.batch.specs.Term.{Term, column_weight}
 use Rattle.column.specs.declared.term.CountedTerm.{CountedTerm}
-use Rattle.column.specs.Parts.{Part, low, units}
+use Rattle.column.specs.Parts.{Part, low}
 use Rattle.column.specs.Columns.{digit, column_total}
 use Rattle.column.specs.Ends.{reaching_below}
 use Rattle.column.specs.Listed.{listed_part, parts_listed}

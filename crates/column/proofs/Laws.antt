@@ -1,5 +1,5 @@
 -- The laws of the columns and of the ends.
-use Rattle.std.proofs.Common.{◌≡◌, ℕ, ◌-◌, ◌*◌, ◌^◌, List, [], ◌∷◌, ℤ, pos, ◌+ℤ◌, neg_ℤ, ◌≤ℤ◌, refl, ap, subst, arith}
+use Rattle.std.proofs.Common.{◌≡◌, ℕ, ◌-◌, ◌*◌, ◌^◌, List, [], ◌∷◌, ℤ, pos, ◌+ℤ◌, ◌≤ℤ◌, ap, subst, arith}
 use borrow.Author.Differences.{ints}
 use Rattle.exact.specs.Integers.{gap, lesser}
 use Rattle.exact.specs.Dyadic.{Dyadic, dyadic, plus, ◌≤ᴰ◌, ◌≈ᴰ◌}

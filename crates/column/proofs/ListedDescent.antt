@@ -2,7 +2,7 @@
 use Rattle.std.proofs.Common.{◌≡◌, ℕ, zero, suc, List, [], ◌∷◌, ℤ, pos, ◌≤ℤ◌, ◌<ℤ◌, refl, inl, inr, arith}
 use borrow.Author.Differences.{ints}
 use Rattle.std.specs.List.{AllByRecursion, filter_map, reduce}
-use Rattle.batch.specs.Term.{Term, not_a_number, infinite, signed_zero, regular, top_weight, farthest_top, Limited, Batchable}
+use Rattle.batch.specs.Term.{Term, top_weight, farthest_top, Limited, Batchable}
 use Rattle.batch.specs.Lookup.{top_of_term}
 use Rattle.column.specs.declared.term.CountedTerm.{CountedTerm}
 use Rattle.column.specs.Parts.{low, top}

@@ -1,20 +1,11 @@
 -- The list of the columns: falling, and just the occupied ones.
-use Rattle.std.proofs.Common.{◌≡◌, ℕ, zero, suc, cond, ◌⊎◌, ◌↔◌, List, [], ◌∷◌, ℤ, pos, negsuc, ◌+ℤ◌, ◌-ℤ◌, ◌≤ℤ◌, ◌<ℤ◌, ◌∙◌, inl, inr, arith}
-use lib.Signed.{lt_z}
+use Rattle.std.proofs.Common.{◌≡◌, ℕ, zero, suc, ◌⊎◌, ◌↔◌, List, [], ◌∷◌, ℤ, pos, ◌+ℤ◌, ◌≤ℤ◌, ◌<ℤ◌, inr, arith}
 use borrow.Author.Differences.{ints}
 use Rattle.std.specs.List.{AllByRecursion}
-use Rattle.std.proofs.lemmas.Bool.{cond_both}
-use Rattle.std.proofs.lemmas.Int.{by_lt_z}
 use Rattle.std.proofs.ByRecursion.{All-weaker}
 use Rattle.batch.specs.Term.{column_weight}
-use Rattle.column.specs.Parts.{Part, top}
+use Rattle.column.specs.Parts.{Part}
 use Rattle.column.specs.Columns.{Occupies, Occupied, column_of, height, with_column, with_columns, columns, Falling, Listed}
-
-either : {A B C D : Type 0} → (A → C) → (B → D) → A ⊎ B → C ⊎ D
-either h g k1 = grind (arith, ints)
-
-pub swap : {A B C : Type 0} → A ⊎ (B ⊎ C) → B ⊎ (A ⊎ C)
-swap h = grind (arith, ints)
 
 in_from : (k : ℤ) (cs : List ℤ) (x : ℤ) → Listed (with_column k cs) x → (x ≡ k) ⊎ Listed cs x
 in_from k [] x = λ h. h
@@ -35,15 +26,6 @@ falling_with k (c ∷ cs) (a, d) = grind (arith, ints, All-weaker, all_with, fal
 -- ---- a run of columns
 abbrev Run : ℤ → ℕ → ℤ → Type 0
 Run k n x = (k ≤ℤ x) × (x <ℤ (k +ℤ pos n))
-
-run_last : (k : ℤ) (n : ℕ) (x : ℤ) → Run k (suc n) x → (x ≡ k +ℤ pos n) ⊎ Run k n x
-run_last k n x (a, b) = grind (arith, ints)
-
-last_run : (k : ℤ) (n : ℕ) (x : ℤ) → (x ≡ k +ℤ pos n) ⊎ Run k n x → Run k (suc n) x
-last_run k n x h = grind (arith, ints)
-
-pub regrouped : {A B C : Type 0} → A ⊎ (B ⊎ C) → (A ⊎ B) ⊎ C
-regrouped h = grind (arith, ints)
 
 run_from : (k : ℤ) (n : ℕ) (cs : List ℤ) (x : ℤ) → Listed (with_columns k n cs) x → Run k n x ⊎ Listed cs x
 run_from k zero cs x i = inr i

@@ -1,10 +1,9 @@
 -- What a batch answers of a listed term is what its part has.
-use Rattle.std.proofs.Common.{◌≡◌, ℕ, zero, suc, ◌/◌, ◌%◌, ◌^◌, Bool, List, [], ◌∷◌, map, get_or, ℤ, pos, sym, refl, ap, ◌∙◌, ap₂, zero-mul, arith}
-use native.Mathlib.Nat.{zero-div}
+use Rattle.std.proofs.Common.{◌≡◌, ℕ, zero, suc, Bool, List, [], ◌∷◌, map, get_or, ℤ, pos, sym, refl, ◌∙◌, ap₂, arith}
 use lib.Ieee.Digits.{size-le}
 use borrow.Author.Differences.{ints}
-use Rattle.exact.specs.Integers.{signed, gap}
-use Rattle.batch.specs.Term.{Term, not_a_number, infinite, signed_zero, regular, low_weight, top_weight, digit_at, column_weight}
+use Rattle.exact.specs.Integers.{signed}
+use Rattle.batch.specs.Term.{Term, not_a_number, infinite, signed_zero, regular, low_weight, top_weight, digit_at}
 use Rattle.batch.specs.Lookup.{low_of_term, top_of_term, digit_of_term}
 use Rattle.column.specs.declared.term.CountedTerm.{CountedTerm}
 use Rattle.column.specs.Parts.{Part, part, low, top}

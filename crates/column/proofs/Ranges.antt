@@ -3,8 +3,7 @@ use Rattle.std.proofs.Common.{◌≡◌, ℕ, suc, ◌+◌, ◌-◌, ◌*◌, �
 use lib.Signed.{lt_z}
 use borrow.Author.Differences.{ints}
 use Rattle.std.specs.List.{AllByRecursion}
-use Rattle.std.proofs.ByRecursion.{All-weaker, All-map, All-append}
-use Rattle.std.proofs.lemmas.List.{length-append, length-map}
+use Rattle.std.proofs.ByRecursion.{All-weaker}
 use Rattle.exact.specs.Integers.{gap}
 use Rattle.exact.specs.Dyadic.{Dyadic, dyadic, plus, total, exponent}
 use Rattle.exact.proofs.Multiples.{room}
@@ -12,11 +11,10 @@ use Rattle.exact.proofs.Scaling.{scale_mono, scale_neg, scale_abs}
 use Rattle.exact.proofs.Sums.{at_plus, BelowAll, total_above}
 use Rattle.exact.proofs.Exponents.{at_own, exponent_upto}
 use Rattle.grid.specs.Spacing.{InRange, lowest}
-use Rattle.batch.specs.Term.{Term, not_a_number, infinite, signed_zero, regular, Limited, Batchable, column_weight}
+use Rattle.batch.specs.Term.{Term, Limited, Batchable, column_weight}
 use Rattle.sheet.specs.declared.mark.Mark.{Mark}
-use Rattle.sheet.specs.declared.mark.Mark.TheVariants.{Out, In, Turned}
 use Rattle.column.specs.Parts.{Part, Regular, low, top, number, exact_sum, units}
-use Rattle.column.specs.PartsOf.{regular_part, turned, counted_part, parts_from, parts_of}
+use Rattle.column.specs.PartsOf.{counted_part, parts_from, parts_of}
 use Rattle.column.specs.Columns.{Occupied, Listed}
 use Rattle.column.specs.Ends.{cut_sum, reaching_below, lower_end, upper_end}
 use Rattle.column.specs.Claims.{DownFrom, AlwaysInRange, AllInRange}

@@ -1,11 +1,11 @@
 -- One part, cut at two weights.
-use Rattle.std.proofs.Common.{◌≡◌, ℕ, ◌+◌, ◌*◌, ◌/◌, ◌%◌, ◌^◌, ◌<◌, ◌⊎◌, ℤ, ◌≤ℤ◌, sym, ap, ◌∙◌, inl, inr, lt_of_lt_of_le, mod-eq_of_lt, div-one, arith, pow_mono, shl_lt, shr-shr, shr_lt}
+use Rattle.std.proofs.Common.{◌≡◌, ◌+◌, ◌*◌, ◌/◌, ◌%◌, ◌^◌, ◌<◌, ◌⊎◌, ℤ, ◌≤ℤ◌, sym, ap, inl, inr, lt_of_lt_of_le, mod-eq_of_lt, arith, pow_mono, shl_lt, shr-shr, shr_lt}
 use native.Mathlib.Nat.{mul-mod_left}
 use lib.Pow.{split}
 use lib.Ieee.{size}
 use lib.Ieee.Digits.{size-lt}
 use borrow.Author.Differences.{ints}
-use Rattle.exact.specs.Integers.{gap, lesser}
+use Rattle.exact.specs.Integers.{gap}
 use Rattle.exact.proofs.Multiples.{multiple_coarser}
 use Rattle.batch.proofs.Units.{units_at}
 use Rattle.column.specs.Parts.{Part, top, units}

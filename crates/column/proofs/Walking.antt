@@ -1,5 +1,5 @@
 -- The walk from the first column down to the depth.
-use Rattle.std.proofs.Common.{◌≡◌, false, List, [], ◌∷◌, ◌++◌, ℤ, ◌<ℤ◌, Some, Option, sym, refl, ap, append_assoc, ◌∙◌, subst, ⊎_elim, arith}
+use Rattle.std.proofs.Common.{◌≡◌, false, List, [], ◌∷◌, ◌++◌, ℤ, ◌<ℤ◌, Some, Option, sym, ap, append_assoc, ◌∙◌, subst, ⊎_elim, arith}
 use lib.Signed.{lt_z}
 use borrow.Author.Differences.{ints}
 use Rattle.std.specs.List.{AllByRecursion}
@@ -16,8 +16,7 @@ use Rattle.column.specs.Walk.{first_column, first_below}
 use Rattle.column.specs.Claims.{DownFrom, AlikeStays, NextListed, WalkStarts, WalkGoesOn, WalkEnds}
 use Rattle.column.proofs.Listing.{columns_fall}
 use Rattle.column.proofs.Laws.{ends_nested, sum_enclosed}
-use Rattle.column.proofs.Depths.{alike_true, true_alike}
-use Rattle.column.proofs.Descent.{first_is}
+use Rattle.column.proofs.Depths.{alike_true}
 
 -- ---- the columns to come
 pub from_next : (ps : List Part) (c : ℤ) (cs : List ℤ) → DownFrom ps (c ∷ cs) → DownFrom ps cs
