@@ -1,5 +1,5 @@
 -- The depth, and what the exact sum rounds to there.
-use Rattle.std.proofs.Common.{◌≡◌, ℕ, zero, suc, ◌≤◌, true, List, [], ◌∷◌, length, ℤ, pos, refl, subst, inl, arith}
+use Rattle.std.proofs.Common.{◌≡◌, ℕ, zero, suc, ◌≤◌, true, List, [], ◌∷◌, length, ℤ, pos, refl, arith}
 use borrow.Author.Differences.{ints}
 use Rattle.std.proofs.lemmas.Bool.{both_ways, cond_both}
 use Rattle.exact.specs.Dyadic.{dyadic, total}
@@ -8,7 +8,7 @@ use Rattle.grid.specs.Rounding.{Mode, rounded, Answer, Alike}
 use Rattle.grid.proofs.Everywhere.{LawsEverywhere, laws_everywhere}
 use Rattle.grid.proofs.Monotone.{between, alike_refl}
 use Rattle.column.specs.Parts.{Part, Regular, exact_sum}
-use Rattle.column.specs.Columns.{Occupies, column_of, columns, Listed}
+use Rattle.column.specs.Columns.{column_of, columns}
 use Rattle.column.specs.Ends.{lower_end, upper_end}
 use Rattle.column.specs.Depth.{alike, ends_alike, depth_in, answer_in, depth, answer, AlikeAt}
 use Rattle.column.specs.Claims.{SumSettled, DepthExists, DepthOfNone, AnswerRight}
@@ -75,12 +75,7 @@ module _ (u : ℤ → ℤ) (m : Mode) (ps : List Part) where
 
 -- a part that is not 0 occupies a column
 pub some_column : (p : Part) (ps : List Part) → Regular (p ∷ ps) → columns (p ∷ ps) ≡ [] → ⊥
-some_column p ps (h, s) e =
-    let f = floor_is p.weight in
-    let z = size_pos p.significand h in
-    let k = column_of p.weight in
-    let o : Occupies p k = (omega (arith, ints), omega (arith, ints)) in
-    subst (λ (l : List ℤ). Listed l k) e (occupied_columns (p ∷ ps) k (inl o))
+some_column p ps (h, s) e = grind (arith, ints, floor_is p.weight, size_pos, occupied_columns (p ∷ ps) (column_of p.weight))
 
 here_in : (u : ℤ → ℤ) (m : Mode) (ps : List Part) (cs : List ℤ) → (cs ≡ [] → ⊥) → AlikeAt u m ps cs (depth_in u m ps cs) × (depth_in u m ps cs ≤ length cs)
 here_in u m ps [] n = absurd (n refl)

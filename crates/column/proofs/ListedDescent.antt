@@ -28,8 +28,7 @@ top_at_limited (t ∷ ts) (h, l) (suc i) = top_at_limited ts l i
 
 occupied_limited : (ts : List Term) → AllByRecursion Limited ts → (xs : List CountedTerm) (k : ℤ) → Occupied (parts_listed ts xs) k → k <ℤ pos 2147483647
 occupied_limited ts l [] k o = elim o [ ]
-occupied_limited ts l (x ∷ xs) k (inl o) = omega (arith, ints, o, listed_top ts x, top_at_limited ts l x.place)
-occupied_limited ts l (x ∷ xs) k (inr o) = occupied_limited ts l xs k o
+occupied_limited ts l (x ∷ xs) k o = grind (arith, ints, listed_top ts x, top_at_limited ts l x.place, occupied_limited ts l xs k)
 
 all_listed : (P : ℤ → Type 0) (cs : List ℤ) → ((k : ℤ) → Listed cs k → P k) → AllByRecursion P cs
 all_listed P [] f = tt

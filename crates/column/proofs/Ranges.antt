@@ -102,14 +102,10 @@ module _ (ps : List Part) (s : Regular ps) (n : length ps ≤ 1024) (l t : ℤ) 
       record { from = omega (arith, ints); upto = omega (arith, ints) }
 
   lower_in : (c : ℤ) (cs : List ℤ) → DownFrom ps (c ∷ cs) → InRange (exponent (lower_end ps c cs))
-  lower_in c cs f =
-      let k = reaching_below ps (column_weight c) in
-      subst (λ (x : Dyadic). InRange (exponent x)) (lower_is ps c cs (chain ps s f.0 (c ∷ cs) f.1).0) (end_in c cs f (neg_ℤ (pos k)) (omega (arith, ints)))
+  lower_in c cs f = grind (arith, ints, lower_is, chain ps s f.0 (c ∷ cs) f.1, end_in c cs f (neg_ℤ (pos (reaching_below ps (column_weight c)))))
 
   upper_in : (c : ℤ) (cs : List ℤ) → DownFrom ps (c ∷ cs) → InRange (exponent (upper_end ps c cs))
-  upper_in c cs f =
-      let k = reaching_below ps (column_weight c) in
-      subst (λ (x : Dyadic). InRange (exponent x)) (upper_is ps c cs (chain ps s f.0 (c ∷ cs) f.1).0) (end_in c cs f (pos k) (omega (arith, ints)))
+  upper_in c cs f = grind (arith, ints, upper_is, chain ps s f.0 (c ∷ cs) f.1, end_in c cs f (pos (reaching_below ps (column_weight c))))
 
   sum_in : InRange (exponent (exact_sum ps))
   sum_in =

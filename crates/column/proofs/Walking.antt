@@ -1,5 +1,5 @@
 -- The walk from the first column down to the depth.
-use Rattle.std.proofs.Common.{◌≡◌, false, List, [], ◌∷◌, ◌++◌, ℤ, ◌<ℤ◌, Some, Option, sym, ap, append_assoc, ◌∙◌, subst, ⊎_elim, arith}
+use Rattle.std.proofs.Common.{◌≡◌, false, List, [], ◌∷◌, ◌++◌, ℤ, ◌<ℤ◌, Some, Option, sym, append_assoc, ◌∙◌, ⊎_elim, arith}
 use lib.Signed.{lt_z}
 use borrow.Author.Differences.{ints}
 use Rattle.std.specs.List.{AllByRecursion}
@@ -35,7 +35,7 @@ first_after (x ∷ above) c cs (a, f) =
     cond_both (lt_z x c) (Some x) (first_below c (above ++ (c ∷ cs))) (λ (r : Option ℤ). r ≡ first_column cs) (λ e. absurd (omega (arith, ints))) (λ e. first_after above c cs f)
 
 pub next_listed : NextListed
-next_listed ps c cs (above, e) = ap (first_below c) e ∙ first_after above c cs (subst Falling e (columns_fall ps))
+next_listed ps c cs (above, e) = grind (arith, ints, first_after, columns_fall)
 
 -- ---- once alike, always alike
 alike_both : (a b c : Answer) → Alike b a → Alike c a → Alike b c
