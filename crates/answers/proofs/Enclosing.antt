@@ -1,5 +1,6 @@
 -- Two answers, one downward and one upward, enclose the exact sum.
-use Rattle.std.proofs.Common.{◌≡◌, ℕ, ◌≤◌, List, ℤ, Some, sym, refl, ap, ◌∙◌, subst}
+use Rattle.std.proofs.Common.{◌≡◌, ℕ, ◌≤◌, List, ℤ, Some, sym, refl, ap, ◌∙◌, subst, arith}
+use borrow.Author.Differences.{ints}
 use mathlib.Core.Path.{fun_ext}
 use Rattle.exact.specs.Dyadic.{Dyadic, ◌≈ᴰ◌}
 use Rattle.exact.proofs.Order.{≈ᴰ_trans}
@@ -14,7 +15,6 @@ use Rattle.survey.specs.Kinds.{class_of_sum}
 use Rattle.survey.specs.declared.class.SumClass.TheVariants.{Number}
 use Rattle.column.specs.Parts.{exact_sum}
 use Rattle.column.specs.PartsOf.{parts_of}
-use Rattle.column.specs.Depth.{depth}
 use Rattle.answers.specs.Published.{Published, answer}
 use Rattle.answers.specs.Asked.{Question}
 use Rattle.answers.specs.Laws.{answer_value, sum_asked, Proper, Twins, AnswersEnclose}
@@ -34,11 +34,11 @@ enclosed_≈ u x lo hi v w e f E = record {
 -- the answer to a question in a mode is what the sum rounds to
 module _ (u : ℤ → ℤ) (W : ℕ) (L : Lawful u W) (marks : ℕ → Mark) (ts : List Term) (B : Batchable ts) (F : class_of_sum marks ts ≡ Number) where
   value_is : (m : Mode) (room : ℕ) (a : Published) → limbs_for W ≤ room → answer marks ts u m room ≡ a → (rounded u m (exact_sum (parts_of marks ts))).value ≈ᴰ answer_value a
-  value_is m room a R e = sym (subst (λ (b : Published). Made (rounded u m (exact_sum (parts_of marks ts))) (depth u m (parts_of marks ts)) b) e (answer_made u W L m marks ts B room R F)).value
+  value_is m room a R e = grind (arith, ints, Made, answer_made)
 
 -- the mode of a number that is known
 mode_is : (n k : ℕ) (m o : Mode) → mode_numbered n ≡ Some m → n ≡ k → mode_numbered k ≡ Some o → m ≡ o
-mode_is n k m o e f g = let h = sym e ∙ ap mode_numbered f ∙ g in cc
+mode_is n k m o e f g = grind (arith, ints)
 
 pub answers_enclose : AnswersEnclose
 answers_enclose marks p q down up P t e f F =

@@ -1,7 +1,6 @@
 -- Equal numbers stand in the same order and at the same distance from others, and are neighbours of the same numbers.
-use Rattle.std.proofs.Common.{◌≡◌, Bool, true, false, ℤ, pos, ◌-ℤ◌, nat_abs, sym, refl, ap, ◌∙◌, arith}
+use Rattle.std.proofs.Common.{ℤ, pos, ◌-ℤ◌, nat_abs, sym, ap, ◌∙◌, arith}
 use borrow.Author.Differences.{ints}
-use Rattle.exact.specs.Integers.{is_negative}
 use Rattle.exact.specs.Dyadic.{Dyadic, dyadic, at, ◌≤ᴰ◌, ◌<ᴰ◌, ◌≈ᴰ◌, distance, exponent}
 use Rattle.exact.proofs.Scaling.{below_three}
 use Rattle.exact.proofs.Order.{at_le, le_at, at_lt, lt_at, at_same, same_at, ≈ᴰ_trans}
@@ -72,27 +71,8 @@ module _ (u : ℤ → ℤ) (x v w : Dyadic) (e : v ≈ᴰ w) where
   wanted_≈ away_from_zero h = (λ s. upper_≈ (h.0 s), λ s. lower_≈ (h.1 s))
 
   pub toward_≈ : (d : ℤ) → Toward d v x → Toward d w x
-  toward_≈ d t = record {
-    minus = λ s. lt_left v w e x (t.minus s);
-    below = λ l. t.below (lt_left w v (sym e) x l);
-    none = λ s. ≈ᴰ_trans w v x (sym e) (t.none s);
-    equal = λ s. t.equal (≈ᴰ_trans v w x e s);
-    one = λ s. lt_right v w e x (t.one s);
-    above = λ l. t.above (lt_right w v (sym e) x l);
-  }
+  toward_≈ d t = grind (arith, ints, lt_left, lt_right, ≈ᴰ_trans)
 
 -- what a mode asks for is on the grid
 pub wanted_on : (u : ℤ → ℤ) (m : Mode) (x v : Dyadic) → Wanted u m x v → OnGrid u v
-wanted_on u nearest x v h = h.on
-wanted_on u downward x v h = h.on
-wanted_on u upward x v h = h.on
-wanted_on u toward_zero x v h = by_sign (is_negative x.count) h.0 h.1
-  where
-    by_sign : (b : Bool) → (b ≡ false → Lower u x v) → (b ≡ true → Upper u x v) → OnGrid u v
-    by_sign false l r = (l refl).on
-    by_sign true l r = (r refl).on
-wanted_on u away_from_zero x v h = by_sign (is_negative x.count) h.0 h.1
-  where
-    by_sign : (b : Bool) → (b ≡ false → Upper u x v) → (b ≡ true → Lower u x v) → OnGrid u v
-    by_sign false l r = (l refl).on
-    by_sign true l r = (r refl).on
+wanted_on u m x v h = grind (arith, ints)

@@ -1,5 +1,6 @@
 -- The worked entries come out as written.
-use Rattle.std.proofs.Common.{refl}
+use Rattle.std.proofs.Common.{arith}
+use borrow.Author.Differences.{ints}
 use Rattle.exact.specs.Dyadic.{total}
 use Rattle.grid.specs.Rounding.{rounded}
 use Rattle.column.specs.Columns.{columns}
@@ -9,4 +10,4 @@ use Rattle.answers.specs.Examples.{EntriesHold}
 
 pub entries_hold : EntriesHold
 unfolding total rounded columns depth answer
-entries_hold = (refl, (refl, (refl, (refl, (refl, (refl, (refl, (refl, (refl, (refl, (refl, (refl, (refl, (refl, (refl, (refl, (refl, (refl, (refl, tt)))))))))))))))))))
+entries_hold = grind (arith, ints)

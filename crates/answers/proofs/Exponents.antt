@@ -21,7 +21,7 @@ module _ (u : ℤ → ℤ) (W : ℕ) (L : Lawful u W) (m : Mode) (x : Dyadic) (N
   v = (rounded u m x).value
 
   in_range : InRange (exponent x)
-  in_range = record { from = omega (arith, ints); upto = omega (arith, ints) }
+  in_range = omega (arith, ints)
 
   -- it is less than twice the larger of 2 ^ exponent and one spacing
   not_above : Nonzero v → exponent v ≤ℤ highest

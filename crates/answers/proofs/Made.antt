@@ -1,12 +1,9 @@
 -- What an answer is made of: where only finite terms count it is the exact sum, rounded once, and its depth.
-use Rattle.std.proofs.Common.{◌≡◌, ℕ, ◌≤◌, Bool, true, false, eqb, List, ℤ, pos, nat_abs, sym, refl, ap, ◌∙◌, subst, inl, ⊎_elim, arith, eqb-true}
+use Rattle.std.proofs.Common.{◌≡◌, ℕ, ◌≤◌, Bool, true, false, eqb, List, ℤ, pos, sym, refl, ap, ◌∙◌, inl, ⊎_elim, arith}
 use borrow.Author.Differences.{ints}
-use borrow.Author.Tests.{eqb-false}
 use Rattle.std.proofs.lemmas.Bool.{cond_both}
-use Rattle.exact.specs.Integers.{signed, gap, scale}
+use Rattle.exact.specs.Integers.{signed, gap}
 use Rattle.exact.specs.Dyadic.{Dyadic, ◌≈ᴰ◌, Nonzero, exponent}
-use Rattle.exact.proofs.Integers.{abs_none}
-use Rattle.exact.proofs.Scaling.{zero_scale}
 use Rattle.grid.specs.Spacing.{Lawful}
 use Rattle.grid.specs.Rounding.{Mode, Answer, rounded}
 use Rattle.grid.proofs.Outcomes.{exact}
@@ -21,9 +18,8 @@ use Rattle.column.specs.PartsOf.{parts_of}
 use Rattle.column.specs.Depth.{depth}
 use Rattle.column.proofs.Ranges.{sum_close}
 use Rattle.survey.specs.Kinds.{class_of_sum, zero_negative, has, counted_kinds}
-use Rattle.survey.specs.declared.class.SumClass.{SumClass}
 use Rattle.survey.specs.declared.class.SumClass.TheVariants.{Number}
-use Rattle.answers.specs.Published.{Published, plain, is_zero, is_downward, regular_answer, rounded_answer, finite_answer, answer_of_class, answer}
+use Rattle.answers.specs.Published.{Published, plain, is_zero, is_downward, regular_answer, rounded_answer, finite_answer, answer}
 use Rattle.answers.specs.Laws.{answer_value}
 use Rattle.answers.proofs.Equals.{wanted_on}
 use Rattle.answers.proofs.LimbLists.{value_of_none}
@@ -32,23 +28,20 @@ use Rattle.answers.proofs.Exponents.{few_digits}
 
 -- two zeros are equal
 zeros_≈ : (x y : Dyadic) → x.count ≡ pos 0 → y.count ≡ pos 0 → x ≈ᴰ y
-zeros_≈ x y e f =
-    ap (λ (n : ℤ). scale n (gap x.weight y.weight)) e ∙ zero_scale (gap x.weight y.weight)
-    ∙ sym (zero_scale (gap y.weight x.weight)) ∙ ap (λ (n : ℤ). scale n (gap y.weight x.weight)) (sym f)
+zeros_≈ x y e f = grind (arith, ints)
 
 signed_none : (s : Bool) → signed s 0 ≡ pos 0
-signed_none true = refl
-signed_none false = refl
+signed_none s = grind (arith, ints)
 
 -- what is not regular is 0
 plain_count : (k : Kind) (d : ℤ) (n room : ℕ) → (answer_value (plain k d n room)).count ≡ pos 0
 plain_count k d n room = let s = eqb (kind_number k) 6 in ap (signed s) (value_of_none room) ∙ signed_none s
 
 pub zero_count : (x : Dyadic) → is_zero x ≡ true → x.count ≡ pos 0
-zero_count x e = abs_none x.count (eqb-true (nat_abs x.count) 0 e)
+zero_count x e = grind (arith, ints)
 
 pub nonzero_count : (x : Dyadic) → is_zero x ≡ false → Nonzero x
-nonzero_count x e z = eqb-false (nat_abs x.count) 0 e (ap nat_abs z)
+nonzero_count x e z = grind (arith, ints)
 
 -- the number, the direction and the depth of an answer
 pub record Made (r : Answer) (n : ℕ) (a : Published) : Type 0 where
@@ -97,4 +90,4 @@ module _ (u : ℤ → ℤ) (W : ℕ) (L : Lawful u W) (m : Mode) (marks : ℕ �
 
   pub answer_made : class_of_sum marks ts ≡ Number → Made r d (answer marks ts u m room)
   unfolding answer
-  answer_made e = subst (λ (c : SumClass). Made r d (answer_of_class c marks ts u m room)) (sym e) finite_made
+  answer_made e = grind (arith, ints, finite_made)

@@ -66,15 +66,8 @@ module _ (u : ℤ → ℤ) (W : ℕ) (L : Lawful u W) (m : Mode) (x v : Dyadic) 
 -- ---- depth
 deep_of : (u : ℤ → ℤ) (m : Mode) (ps : List Part) → Regular ps → Deep u m ps (depth u m ps)
 unfolding columns
-deep_of u m [] s = record {
-  alike = λ n. absurd (n refl);
-  least = λ j a. absurd a;
-  occupied = let e = depth_of_none u m in omega arith;
-  none = λ e. depth_of_none u m;
-}
-deep_of u m (p ∷ ps) s =
-    let d = depth_exists u m p ps s in
-    record { alike = λ n. d.alike; least = d.least; occupied = d.within; none = λ e. absurd (let z : ◌≡◌ {A = ℕ} 0 1 = cc in omega arith) }
+deep_of u m [] s = grind (arith, ints, depth_of_none)
+deep_of u m (p ∷ ps) s = grind (arith, ints, depth_exists u m p ps s)
 
 -- ---- both, of the answer to a question
 pub answers_right : AnswersRight

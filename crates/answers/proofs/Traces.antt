@@ -1,15 +1,13 @@
 -- The law over traces: it holds of the empty one, and goes on with each call.
-use Rattle.std.proofs.Common.{◌≡◌, ℕ, Bool, true, false, cond, ◌⊎◌, List, [], ◌∷◌, ◌++◌, sym, refl, ap, ◌∙◌, subst, inl, inr, ⊎_elim, arith}
+use Rattle.std.proofs.Common.{◌≡◌, ℕ, ◌⊎◌, List, [], ◌∷◌, ◌++◌, sym, refl, ap, ◌∙◌, subst, inl, inr, ⊎_elim, arith}
+use borrow.Author.Differences.{ints}
 use mathlib.Core.Path.{fun_ext}
-use Rattle.sheet.specs.Numbers.{Refusal, refused_by}
 use Rattle.sheet.specs.Model.{asking}
-use Rattle.history.specs.Turns.{fits, open_after}
 use Rattle.sheet.specs.declared.mark.Mark.{Mark}
 use Rattle.answers.specs.Published.{Published}
-use Rattle.answers.specs.Asked.{Question, Reply, refused, answered, asked}
+use Rattle.answers.specs.Asked.{Question, answered, asked}
 use Rattle.answers.specs.Laws.{Proper}
 use Rattle.answers.specs.Trace.{Event, event, history_of, marks_after, reply_after, At, AnsweredAt, LawfulTrace, ProperCall, TraceStarts, TraceGoesOn}
-use Rattle.answers.proofs.Asked.{refused_not_answered}
 use Rattle.answers.proofs.Right.{answers_right}
 use Rattle.answers.proofs.Enclosing.{answers_enclose}
 
@@ -26,19 +24,14 @@ unfolding Place
 place [] x [] e later s = inl (refl, cc)
 place [] x (b ∷ before) e later s = absurd (none_after before later e (cc))
 place (y ∷ h) x [] e later s = inr (h, cc)
-place (y ∷ h) x (b ∷ before) e later s =
-    ⊎_elim (λ (t : (before ≡ h) × (e ≡ x)). inl (let f = t.0 in cc, t.1)) (λ (t : At h before e). inr (t.0, let f = t.1 in cc)) (place h x before e later (cc))
+place (y ∷ h) x (b ∷ before) e later s = grind (arith, ints, place h x before e later (cc))
 
 -- ---- an answered ask was in turn, and got what is fixed for the marks
-in_turn : (b : Bool) (r : Refusal) (s : Reply) (a : Published) → cond b s (refused r) ≡ answered a → s ≡ answered a
-in_turn true r s a e = e
-in_turn false r s a e = absurd (refused_not_answered e)
-
 module _ (h : List Event)
     (T : (before : List Event) (e : Event) → At h before e → e.got ≡ reply_after (history_of before) e.call)
     (P : (before : List Event) (q : Question) (a : Published) → AnsweredAt h before q a → Proper q) where
   fixed : (before : List Event) (q : Question) (a : Published) → AnsweredAt h before q a → asked (marks_after before) q ≡ answered a
-  fixed before q a s = in_turn (fits (open_after (history_of before)) (asking q)) (refused_by 20) (asked (marks_after before) q) a (sym (T before (event (asking q) (answered a)) s))
+  fixed before q a s = grind (arith, ints, T before (event (asking q) (answered a)) s)
 
   lawful_from : LawfulTrace h
   lawful_from = record {
@@ -51,7 +44,7 @@ module _ (h : List Event)
   }
 
 pub trace_starts : TraceStarts
-trace_starts = lawful_from [] (λ before e s. absurd (none_after before s.0 e s.1)) (λ before q a s. absurd (none_after before s.0 (event (asking q) (answered a)) s.1))
+trace_starts = grind (arith, ints, lawful_from, none_after)
 
 pub trace_goes_on : TraceGoesOn
 unfolding Place

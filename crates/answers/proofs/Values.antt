@@ -1,5 +1,5 @@
 -- The number that a regular answer is: the grid number from which it is made.
-use Rattle.std.proofs.Common.{◌≡◌, ℕ, ◌+◌, ◌-◌, ◌*◌, ◌/◌, ◌^◌, ◌<◌, ◌≤◌, Bool, true, false, eqb, ℤ, pos, ◌+ℤ◌, ◌-ℤ◌, nat_abs, sym, refl, ap, ◌∙◌, subst, lt_of_lt_of_le, arith, pow_pos, pow_mono, shl_lt}
+use Rattle.std.proofs.Common.{◌≡◌, ℕ, ◌+◌, ◌-◌, ◌*◌, ◌^◌, ◌<◌, ◌≤◌, Bool, eqb, ℤ, pos, ◌+ℤ◌, ◌-ℤ◌, nat_abs, sym, ap, ◌∙◌, subst, lt_of_lt_of_le, arith, pow_pos, pow_mono, shl_lt}
 use native.Mathlib.Nat.{mul-div_left}
 use lib.Ieee.{size}
 use lib.Ieee.Digits.{size-lt}
@@ -22,19 +22,14 @@ use Rattle.answers.proofs.LimbLists.{value_of_limbs}
 
 -- the whole units in a number that is a whole number of them
 pub units_≈ : (x : Dyadic) (s : Bool) (M : ℕ) (w : ℤ) → x ≈ᴰ dyadic (signed s M) w → whole_units (nat_abs x.count) x.weight w ≡ M
-units_≈ x s M w e =
-    let d = gap w x.weight in
-    let f : nat_abs x.count * 2 ^ gap x.weight w ≡ M * 2 ^ d =
-    sym (scale_abs x.count (gap x.weight w)) ∙ ap nat_abs e ∙ scale_abs (signed s M) d ∙ ap (λ (n : ℕ). n * 2 ^ d) (abs_signed s M) in
-    ap (λ (n : ℕ). n / 2 ^ d) f ∙ mul-div_left M (pow_pos d)
+units_≈ x s M w e = grind (arith, ints, abs_signed, mul-div_left, pow_pos, scale_abs)
 
 -- equal numbers have the same sign
 same_sign : (x y : Dyadic) → x ≈ᴰ y → is_negative x.count ≡ is_negative y.count
-same_sign x y e = sym (negative_scale x.count (gap x.weight y.weight)) ∙ ap is_negative e ∙ negative_scale y.count (gap y.weight x.weight)
+same_sign x y e = grind (arith, ints, negative_scale)
 
 sign_read : (s : Bool) → eqb (kind_number (number_of_sign s)) 6 ≡ s
-sign_read true = refl
-sign_read false = refl
+sign_read s = grind (arith, ints)
 
 module _ (u : ℤ → ℤ) (v : Dyadic) (N : Nonzero v) (q : ℤ) (i : v ≈ᴰ dyadic q (u (exponent v))) where
   abbrev p : ℕ

@@ -45,15 +45,15 @@ part_top p c h none' =
 -- ---- all parts
 clear_of : (ps : List Part) (c d : ℤ) → Regular ps → d <ℤ c → ((k : ℤ) → Occupied ps k → d <ℤ k → k <ℤ c → ⊥) → AllByRecursion (Clear (column_weight c) (column_weight (d +ℤ pos 1))) ps
 clear_of [] c d s g none' = tt
-clear_of (p ∷ ps) c d (h, s) g none' = (part_clear p c d h g (λ k o. none' k (inl o)), clear_of ps c d s g (λ k o. none' k (inr o)))
+clear_of (p ∷ ps) c d (h, s) g none' = grind (arith, ints, part_clear, clear_of ps c d s g)
 
 none_of : (ps : List Part) (c : ℤ) → Regular ps → ((k : ℤ) → Occupied ps k → k <ℤ c → ⊥) → reaching_below ps (column_weight c) ≡ 0
 none_of [] c s none' = refl
-none_of (p ∷ ps) c (h, s) none' = let a = part_none p c h (λ k o. none' k (inl o)) in let b = none_of ps c s (λ k o. none' k (inr o)) in omega arith
+none_of (p ∷ ps) c (h, s) none' = grind (arith, ints, part_none, none_of ps c s)
 
 top_of : (ps : List Part) (c : ℤ) → Regular ps → ((k : ℤ) → Occupied ps k → k ≤ℤ c) → AllByRecursion (λ p. top p ≤ℤ column_weight (c +ℤ pos 1)) ps
 top_of [] c s none' = tt
-top_of (p ∷ ps) c (h, s) none' = (part_top p c h (λ k o. none' k (inl o)), top_of ps c s (λ k o. none' k (inr o)))
+top_of (p ∷ ps) c (h, s) none' = grind (arith, ints, part_top, top_of ps c s)
 
 -- ---- a column and those below it
 -- all that the columns below c hold lies below this weight, where cs are those columns
@@ -80,12 +80,10 @@ in_below c (d ∷ ds) k (l, a) (inl e) = omega (arith, ints)
 in_below c (d ∷ ds) k (l, a) (inr i) = in_below c ds k a i
 
 pub in_upto : (c : ℤ) (cs : List ℤ) (k : ℤ) → AllByRecursion (λ d. d <ℤ c) cs → Listed (c ∷ cs) k → k ≤ℤ c
-in_upto c cs k a (inl e) = omega (arith, ints)
-in_upto c cs k a (inr i) = let l = in_below c cs k a i in omega (arith, ints)
+in_upto c cs k h g = grind (arith, ints, in_below)
 
 pub in_rest : (c : ℤ) (cs : List ℤ) (k : ℤ) → k <ℤ c → Listed (c ∷ cs) k → Listed cs k
-in_rest c cs k l (inl e) = absurd (omega (arith, ints))
-in_rest c cs k l (inr i) = i
+in_rest c cs k h g = grind (arith, ints)
 
 -- all occupied columns below c are in the list
 abbrev Covers : List Part → ℤ → List ℤ → Type 0
@@ -103,9 +101,7 @@ chain_from ps s c (b ∷ bs) ((l, a), d) v = (
 )
 
 pub first_top : (ps : List Part) → Regular ps → (c : ℤ) (cs : List ℤ) → columns ps ≡ c ∷ cs → AllByRecursion (λ p. top p ≤ℤ column_weight (c +ℤ pos 1)) ps
-first_top ps s c cs e =
-    let d = subst Falling e (columns_fall ps) in
-    top_of ps c s (λ k o. in_upto c cs k d.0 (subst (λ (l : List ℤ). Listed l k) e (occupied_columns ps k o)))
+first_top ps s c cs e = grind (arith, ints, columns_fall, in_upto, occupied_columns, top_of)
 
 chain_of : (ps : List Part) → Regular ps → (cs : List ℤ) → columns ps ≡ cs → Chain ps cs
 chain_of ps s [] e = tt

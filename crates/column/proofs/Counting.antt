@@ -1,19 +1,19 @@
 -- The list of the counted terms grows with each place as the parts do.
-use Rattle.std.proofs.Common.{◌≡◌, ℕ, suc, ◌+◌, ◌<◌, Bool, true, false, ◌==◌, List, [], ◌∷◌, ◌++◌, map, length, get_or, take, pos, sym, refl, ap, ◌∙◌, ap₂, append_assoc, append-nil, arith}
+use Rattle.std.proofs.Common.{◌≡◌, ℕ, suc, ◌+◌, ◌<◌, Bool, true, false, ◌==◌, List, [], ◌∷◌, ◌++◌, map, length, get_or, take, pos, sym, ap, ◌∙◌, ap₂, append_assoc, append-nil, arith}
+use borrow.Author.Differences.{ints}
 use Rattle.std.specs.List.{AllByRecursion}
 use Rattle.std.proofs.ByRecursion.{All-map, All-append}
 use Rattle.std.proofs.lemmas.List.{take_more, get_or-map, map-append, length-take-le}
 use Rattle.exact.proofs.BitLength.{pos_of_size}
-use Rattle.batch.specs.Term.{Term, not_a_number, infinite, signed_zero, regular, Limited}
+use Rattle.batch.specs.Term.{Term, not_a_number, Limited}
 use Rattle.batch.specs.TermKinds.{kind_of, kind_number, kind_is_regular}
 use Rattle.batch.specs.Lookup.{kind_of_term}
 use Rattle.batch.specs.declared.kind.Kind.{Kind}
 use Rattle.batch.specs.declared.kind.Kind.TheVariants.{Absent}
 use Rattle.sheet.specs.declared.mark.Mark.{Mark}
-use Rattle.sheet.specs.declared.mark.Mark.TheVariants.{Out, In, Turned}
 use Rattle.column.specs.declared.term.CountedTerm.{CountedTerm}
 use Rattle.column.specs.Parts.{Part, part, Regular}
-use Rattle.column.specs.PartsOf.{regular_part, turned, counted_part, parts_from, parts_of}
+use Rattle.column.specs.PartsOf.{regular_part, counted_part, parts_from, parts_of}
 use Rattle.survey.specs.Kinds.{counted_kind}
 use Rattle.column.specs.Listed.{signed_part, listed_part, parts_listed}
 
@@ -23,40 +23,14 @@ abbrev pub below_0 : Kind → Bool
 below_0 q = kind_number q == 6
 
 counted_some : (k : Mark) (t : Term) → kind_is_regular (counted_kind k (kind_of t)) ≡ true → counted_part k t ≡ signed_part (below_0 (counted_kind k (kind_of t))) t ∷ []
-counted_some Out t e = cc
-counted_some In not_a_number e = cc
-counted_some In (infinite true) e = cc
-counted_some In (infinite false) e = cc
-counted_some In (signed_zero true) e = cc
-counted_some In (signed_zero false) e = cc
-counted_some In (regular true m q) e = refl
-counted_some In (regular false m q) e = refl
-counted_some Turned not_a_number e = cc
-counted_some Turned (infinite true) e = cc
-counted_some Turned (infinite false) e = cc
-counted_some Turned (signed_zero true) e = cc
-counted_some Turned (signed_zero false) e = cc
-counted_some Turned (regular true m q) e = refl
-counted_some Turned (regular false m q) e = refl
+counted_some k t h = grind (arith, ints)
 
 counted_none : (k : Mark) (t : Term) → kind_is_regular (counted_kind k (kind_of t)) ≡ false → counted_part k t ≡ []
-counted_none Out t e = refl
-counted_none In not_a_number e = refl
-counted_none In (infinite s) e = refl
-counted_none In (signed_zero s) e = refl
-counted_none In (regular true m q) e = cc
-counted_none In (regular false m q) e = cc
-counted_none Turned not_a_number e = refl
-counted_none Turned (infinite s) e = refl
-counted_none Turned (signed_zero s) e = refl
-counted_none Turned (regular true m q) e = cc
-counted_none Turned (regular false m q) e = cc
+counted_none k t h = grind (arith, ints)
 
 -- ---- one place more
 parts_push : (marks : ℕ → Mark) (j : ℕ) (ts : List Term) (t : Term) → parts_from marks j (ts ++ t ∷ []) ≡ parts_from marks j ts ++ counted_part (marks (j + length ts)) t
-parts_push marks j [] t =
-    let e : j ≡ j + 0 = omega arith in
-    append-nil (counted_part (marks j) t) ∙ ap (λ (i : ℕ). counted_part (marks i) t) e
+parts_push marks j [] t = grind (arith, ints)
 parts_push marks j (x ∷ ts) t =
     let e : suc j + length ts ≡ j + suc (length ts) = omega arith in
     ap (λ (ps : List Part). counted_part (marks j) x ++ ps) (parts_push marks (suc j) ts t ∙ ap (λ (i : ℕ). parts_from marks (suc j) ts ++ counted_part (marks i) t) e)
@@ -101,16 +75,11 @@ module _ (ts : List Term) (marks : ℕ → Mark) (i : ℕ) (h : i < length ts) w
 
 -- ---- no part is 0
 regular_not_zero : (t : Term) → Limited t → Regular (regular_part t)
-regular_not_zero not_a_number l = tt
-regular_not_zero (infinite s) l = tt
-regular_not_zero (signed_zero s) l = tt
-regular_not_zero (regular s m q) l = (pos_of_size m l.some_digit, tt)
+regular_not_zero t h = grind (arith, ints, pos_of_size)
 
 counted_regular : (k : Mark) (t : Term) → Limited t → Regular (counted_part k t)
-counted_regular Out t l = tt
-counted_regular In t l = regular_not_zero t l
-counted_regular Turned t l = All-map (λ p. 0 < p.significand) turned (regular_part t) (regular_not_zero t l)
+counted_regular k t h = grind (arith, ints, All-map, regular_not_zero)
 
 pub parts_regular : (marks : ℕ → Mark) (i : ℕ) (ts : List Term) → AllByRecursion Limited ts → Regular (parts_from marks i ts)
 parts_regular marks i [] l = tt
-parts_regular marks i (t ∷ ts) (h, l) = All-append (λ p. 0 < p.significand) (counted_part (marks i) t) (parts_from marks (suc i) ts) (counted_regular (marks i) t h) (parts_regular marks (suc i) ts l)
+parts_regular marks i (t ∷ ts) (h, l) = grind (arith, ints, All-append, counted_regular, parts_regular marks (suc i) ts l)

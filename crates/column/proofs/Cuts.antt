@@ -1,10 +1,10 @@
 -- The sums at two weights, and the ends around the exact sum.
-use Rattle.std.proofs.Common.{◌≡◌, ℕ, ◌+◌, ◌-◌, ◌*◌, ◌%◌, ◌^◌, ◌<◌, ◌≤◌, Bool, true, false, cond, List, [], ◌∷◌, map, ℤ, pos, ◌+ℤ◌, neg_ℤ, ◌≤ℤ◌, ◌<ℤ◌, sym, refl, ap, ◌∙◌, subst, ap₂, mod-lt, mod-eq_of_lt, mul-le-mul_left, arith, pow_pos}
+use Rattle.std.proofs.Common.{◌≡◌, ℕ, ◌+◌, ◌-◌, ◌*◌, ◌%◌, ◌^◌, ◌<◌, ◌≤◌, Bool, cond, List, [], ◌∷◌, map, ℤ, pos, ◌+ℤ◌, neg_ℤ, ◌≤ℤ◌, ◌<ℤ◌, sym, refl, ap, ◌∙◌, subst, mod-lt, mod-eq_of_lt, mul-le-mul_left, arith, pow_pos}
 use lib.Signed.{lt_z}
 use borrow.Author.Differences.{ints}
 use Rattle.std.specs.List.{AllByRecursion}
 use Rattle.std.proofs.ByRecursion.{All-weaker}
-use Rattle.exact.specs.Integers.{signed, gap, lesser, scale}
+use Rattle.exact.specs.Integers.{gap, lesser, scale}
 use Rattle.exact.specs.Dyadic.{Dyadic, dyadic, at, plus, ◌≤ᴰ◌}
 use Rattle.exact.proofs.Scaling.{scale_neg, scale_signed}
 use Rattle.exact.proofs.Order.{le_at}
@@ -28,8 +28,7 @@ upper_clear ps w v z h g c =
     ∙ ap (λ (n : ℤ). n +ℤ signed_sum (λ p. units p z % 2 ^ gap v z) ps) (sum_scale (λ p. units p w) d ps)
 
 rest_by : (p : Part) (w v z : ℤ) → z ≤ℤ v → v ≤ℤ w → (t : Bool) → lt_z p.weight w ≡ t → units p z % 2 ^ gap v z ≤ cond t 1 0 * (2 ^ gap v z - 1)
-rest_by p w v z h g true e = let l = mod-lt (units p z) (pow_pos (gap v z)) in omega arith
-rest_by p w v z h g false e = let l = units_none p v z h (omega (arith, ints)) in omega arith
+rest_by p w v z h g t k1 = grind (arith, ints, mod-lt, pow_pos, units_none)
 
 pub rest_within : (ps : List Part) (w v z : ℤ) → z ≤ℤ v → v ≤ℤ w
     → (neg_ℤ (pos (reaching_below ps w * (2 ^ gap v z - 1))) ≤ℤ signed_sum (λ p. units p z % 2 ^ gap v z) ps) × (signed_sum (λ p. units p z % 2 ^ gap v z) ps ≤ℤ pos (reaching_below ps w * (2 ^ gap v z - 1)))
@@ -62,8 +61,7 @@ total_within ps k =
 -- ---- the exact sum
 sum_exact : (z : ℤ) (ps : List Part) → BelowAll z (map number ps) → total_at z (map number ps) ≡ signed_sum (λ p. units p z) ps
 sum_exact z [] h = refl
-sum_exact z (p ∷ ps) (l, h) =
-    ap₂ ◌+ℤ◌ (scale_signed p.negative p.significand (gap p.weight z) ∙ ap (signed p.negative) (sym (units_whole p z l))) (sum_exact z ps h)
+sum_exact z (p ∷ ps) (l, h) = grind (arith, ints, scale_signed, units_whole, sum_exact z ps h)
 
 pub at_exact : (z : ℤ) (ps : List Part) → z ≤ℤ (exact_sum ps).weight → at z (exact_sum ps) ≡ signed_sum (λ p. units p z) ps
 at_exact z ps h = let a = below_all z (map number ps) h in at_total z (map number ps) a ∙ sum_exact z ps a

@@ -1,16 +1,16 @@
 -- The depth, and what the exact sum rounds to there.
-use Rattle.std.proofs.Common.{◌≡◌, ℕ, zero, suc, ◌≤◌, Bool, true, false, ◌&&◌, List, [], ◌∷◌, length, ℤ, pos, sym, refl, subst, inl, arith}
+use Rattle.std.proofs.Common.{◌≡◌, ℕ, zero, suc, ◌≤◌, true, List, [], ◌∷◌, length, ℤ, pos, refl, arith}
 use borrow.Author.Differences.{ints}
-use Rattle.std.proofs.lemmas.Bool.{and_parts, both_ways, cond_both}
-use Rattle.exact.specs.Dyadic.{dyadic, at, total}
+use Rattle.std.proofs.lemmas.Bool.{both_ways, cond_both}
+use Rattle.exact.specs.Dyadic.{dyadic, total}
 use Rattle.exact.proofs.BitLength.{size_pos}
 use Rattle.grid.specs.Rounding.{Mode, rounded, Answer, Alike}
 use Rattle.grid.proofs.Everywhere.{LawsEverywhere, laws_everywhere}
 use Rattle.grid.proofs.Monotone.{between, alike_refl}
 use Rattle.column.specs.Parts.{Part, Regular, exact_sum}
-use Rattle.column.specs.Columns.{Occupies, column_of, columns, Listed}
+use Rattle.column.specs.Columns.{column_of, columns}
 use Rattle.column.specs.Ends.{lower_end, upper_end}
-use Rattle.column.specs.Depth.{same_integer, same_sign, alike, ends_alike, depth_in, answer_in, depth, answer, AlikeAt}
+use Rattle.column.specs.Depth.{alike, ends_alike, depth_in, answer_in, depth, answer, AlikeAt}
 use Rattle.column.specs.Claims.{SumSettled, DepthExists, DepthOfNone, AnswerRight}
 use Rattle.column.proofs.Listing.{floor_is, occupied_columns}
 use Rattle.column.proofs.Chain.{Link, Chain, chain}
@@ -25,36 +25,11 @@ pub sum_settled : SumSettled
 sum_settled u W L m ps s c cs (above, e) = link_settles u (laws_everywhere u W L) m ps c cs (chain ps s above (c ∷ cs) e).0
 
 -- ---- the test says whether two answers are alike
-same_true : (a b : ℤ) → same_integer a b ≡ true → a ≡ b
-same_true a b e = grind (arith, ints)
-
-true_same : (a b : ℤ) → a ≡ b → same_integer a b ≡ true
-true_same a b e = grind (arith, ints)
-
-sign_true : (a b : Bool) → same_sign a b ≡ true → a ≡ b
-sign_true true true e = refl
-sign_true true false e = sym e
-sign_true false true e = e
-sign_true false false e = refl
-
-true_sign : (a b : Bool) → a ≡ b → same_sign a b ≡ true
-true_sign true b e = sym e
-true_sign false true e = e
-true_sign false false e = refl
-
 pub alike_true : (a b : Answer) → alike a b ≡ true → Alike a b
-alike_true a b e =
-    let x = at b.value.weight a.value in
-    let y = at a.value.weight b.value in
-    let p = and_parts (same_integer x y) (same_sign a.negative b.negative && same_integer a.direction b.direction) e in
-    let q = and_parts (same_sign a.negative b.negative) (same_integer a.direction b.direction) p.1 in
-    record { values = same_true x y p.0; signs = sign_true a.negative b.negative q.0; directions = same_true a.direction b.direction q.1 }
+alike_true a b e = grind (arith, ints)
 
 pub true_alike : (a b : Answer) → Alike a b → alike a b ≡ true
-true_alike a b k =
-    let x = at b.value.weight a.value in
-    let y = at a.value.weight b.value in
-    rw (true_same x y k.values, true_sign a.negative b.negative k.signs, true_same a.direction b.direction k.directions)
+true_alike a b k = grind (arith, ints)
 
 -- ---- the first column at which the ends are alike
 module _ (u : ℤ → ℤ) (m : Mode) (ps : List Part) where
@@ -63,20 +38,16 @@ module _ (u : ℤ → ℤ) (m : Mode) (ps : List Part) where
   last_alike c = alike_refl (rounded u m (upper_end ps c []))
 
   later : (c : ℤ) (cs : List ℤ) (j : ℕ) → AlikeAt u m ps cs j → AlikeAt u m ps (c ∷ cs) (suc j)
-  later c [] j h = elim h [ ]
-  later c (d ∷ ds) zero h = elim h [ ]
-  later c (d ∷ ds) (suc j) h = h
+  later c cs j h = grind (arith, ints)
 
   abbrev Here : List ℤ → ℕ → Type 0
   Here cs j = AlikeAt u m ps cs j × (j ≤ length cs)
 
   here_one : (c : ℤ) (cs : List ℤ) → ends_alike u m ps c cs ≡ true → Here (c ∷ cs) 1
-  here_one c cs e = (alike_true (rounded u m (lower_end ps c cs)) (rounded u m (upper_end ps c cs)) e, omega arith)
+  here_one c cs e = grind (arith, ints, alike_true)
 
   here : (c : ℤ) (cs : List ℤ) → Here (c ∷ cs) (depth_in u m ps (c ∷ cs))
-  here c [] =
-      cond_both {A = ℕ} (ends_alike u m ps c []) 1 (suc 0) (Here (c ∷ [])) (here_one c [])
-      (λ e. absurd (both_ways (ends_alike u m ps c []) e (true_alike (rounded u m (lower_end ps c [])) (rounded u m (upper_end ps c [])) (last_alike c))))
+  here c [] = grind (arith, ints)
   here c (d ∷ ds) =
       let h = here d ds in
       let j = depth_in u m ps (d ∷ ds) in
@@ -85,7 +56,7 @@ module _ (u : ℤ → ℤ) (m : Mode) (ps : List Part) where
   least : (cs : List ℤ) (j : ℕ) → AlikeAt u m ps cs j → depth_in u m ps cs ≤ j
   least [] j h = elim h [ ]
   least (c ∷ cs) zero h = elim h [ ]
-  least (c ∷ cs) (suc zero) h = rw (true_alike (rounded u m (lower_end ps c cs)) (rounded u m (upper_end ps c cs)) h) (omega arith)
+  least (c ∷ cs) (suc zero) h = grind (arith, ints)
   least (c ∷ cs) (suc (suc j)) h =
       let i = least cs (suc j) h in
       cond_both {A = ℕ} (ends_alike u m ps c cs) 1 (suc (depth_in u m ps cs)) (λ n. n ≤ suc (suc j)) (λ e. omega arith) (λ e. omega (arith, i))
@@ -104,12 +75,7 @@ module _ (u : ℤ → ℤ) (m : Mode) (ps : List Part) where
 
 -- a part that is not 0 occupies a column
 pub some_column : (p : Part) (ps : List Part) → Regular (p ∷ ps) → columns (p ∷ ps) ≡ [] → ⊥
-some_column p ps (h, s) e =
-    let f = floor_is p.weight in
-    let z = size_pos p.significand h in
-    let k = column_of p.weight in
-    let o : Occupies p k = (omega (arith, ints), omega (arith, ints)) in
-    subst (λ (l : List ℤ). Listed l k) e (occupied_columns (p ∷ ps) k (inl o))
+some_column p ps (h, s) e = grind (arith, ints, floor_is p.weight, size_pos, occupied_columns (p ∷ ps) (column_of p.weight))
 
 here_in : (u : ℤ → ℤ) (m : Mode) (ps : List Part) (cs : List ℤ) → (cs ≡ [] → ⊥) → AlikeAt u m ps cs (depth_in u m ps cs) × (depth_in u m ps cs ≤ length cs)
 here_in u m ps [] n = absurd (n refl)

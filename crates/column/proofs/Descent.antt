@@ -1,17 +1,14 @@
 -- The next occupied column below a given one, and the first of all.
-use Rattle.std.proofs.Common.{◌≡◌, cond, ◌⊎◌, List, [], ◌∷◌, map, ℤ, pos, ◌-ℤ◌, ◌≤ℤ◌, ◌<ℤ◌, Some, None, Option, refl, ap, subst, inl, inr, arith}
-use lib.Signed.{lt_z}
+use Rattle.std.proofs.Common.{◌≡◌, ◌⊎◌, List, [], ◌∷◌, map, ℤ, pos, ◌-ℤ◌, ◌≤ℤ◌, ◌<ℤ◌, Some, None, Option, subst, arith}
 use borrow.Author.Differences.{ints}
 use Rattle.std.specs.Int.{int_max, int_min}
 use Rattle.std.specs.List.{AllByRecursion, filter_map, cons_option, fold, reduce}
 use Rattle.std.specs.Ordering.{int_cmp, max_by_ordering}
-use Rattle.std.proofs.lemmas.Int.{by_lt_z, clamps}
-use Rattle.std.proofs.lemmas.Bool.{cond_both}
-use Rattle.std.specs.declared.cmp.Ordering.TheVariants.{Less, Equal, Greater}
+use Rattle.std.proofs.lemmas.Int.{clamps}
 use Rattle.column.specs.Parts.{Part}
 use Rattle.column.specs.Columns.{Spans, Occupies, Occupied, column_of, columns, Falling, Listed}
 use Rattle.column.specs.Walk.{first_column, first_below, Highest, higher, highest_spanned}
-use Rattle.column.proofs.Listing.{swap, regrouped, floor_is, columns_fall, columns_occupied, occupied_columns}
+use Rattle.column.proofs.Listing.{floor_is, columns_fall, columns_occupied, occupied_columns}
 use Rattle.column.proofs.Chain.{in_below}
 
 -- ---- the columns that some weights lie in
@@ -21,73 +18,34 @@ module _ (low top below : ℤ) where
   candidate = int_min (column_of (top -ℤ pos 1)) (below -ℤ pos 1)
 
   pub none_spanned : candidate <ℤ column_of low → Highest below (Spans low top) None
-  none_spanned h k (a, b) l =
-      let f = floor_is low in
-      let t = floor_is (top -ℤ pos 1) in
-      omega (arith, ints, clamps)
+  none_spanned h k (a, b) l = omega (arith, ints, clamps, floor_is low, floor_is (top -ℤ pos 1))
 
   pub some_spanned : (c : ℤ) → c ≡ candidate → column_of low ≤ℤ c → Highest below (Spans low top) (Some c)
-  some_spanned c e h =
-      let f = floor_is low in
-      let t = floor_is (top -ℤ pos 1) in
-      ((omega (arith, ints, clamps), omega (arith, ints, clamps)), omega (arith, ints, clamps), λ k s l. omega (arith, ints, clamps))
+  some_spanned c e h = omega (arith, ints, clamps, floor_is low, floor_is (top -ℤ pos 1))
 
   pub spanned_is : Highest below (Spans low top) (highest_spanned low top below)
-  spanned_is =
-      cond_both (lt_z candidate (column_of low)) None (Some candidate) (Highest below (Spans low top))
-      (λ e. none_spanned (omega (arith, ints)))
-      (λ e. some_spanned candidate refl (omega (arith, ints)))
+  spanned_is = grind (arith, ints, none_spanned, some_spanned)
 
 -- ---- the highest of two sorts of columns
 module _ (b : ℤ) where
   pub highest_either : (P Q : ℤ → Type 0) (r s : Option ℤ) → Highest b P r → Highest b Q s → Highest b (λ k. P k ⊎ Q k) (higher r s)
-  highest_either P Q None None h g = λ k o l. elim o [ inl p ↦ h k p l | inr q ↦ g k q l ]
-  highest_either P Q None (Some d) h (q, l, m) = (inr q, l, λ k o n. elim o [ inl p ↦ absurd (h k p n) | inr q' ↦ m k q' n ])
-  highest_either P Q (Some c) None (p, l, m) g = (inl p, l, λ k o n. elim o [ inl p' ↦ m k p' n | inr q ↦ absurd (g k q n) ])
-  highest_either P Q (Some c) (Some d) (p, l, m) (q, l', m') =
-      by_lt_z c d
-      (λ lt. let e : d ≡ int_max c d = omega (arith, ints, clamps) in subst (λ (x : ℤ). Highest b (λ k. P k ⊎ Q k) (Some x)) e
-      (inr q, l', λ k o n. elim o [ inl p' ↦ (let z = m k p' n in omega (arith, ints)) | inr q' ↦ m' k q' n ]))
-      (λ ge. let e : c ≡ int_max c d = omega (arith, ints, clamps) in subst (λ (x : ℤ). Highest b (λ k. P k ⊎ Q k) (Some x)) e
-      (inl p, l, λ k o n. elim o [ inl p' ↦ m k p' n | inr q' ↦ (let z = m' k q' n in omega (arith, ints)) ]))
+  highest_either P Q r s h g = grind (arith, ints, clamps)
 
   -- there is but one highest
   pub highest_unique : (P : ℤ → Type 0) (r s : Option ℤ) → Highest b P r → Highest b P s → r ≡ s
-  highest_unique P None None h g = refl
-  highest_unique P None (Some d) h (q, l, m) = absurd (h d q l)
-  highest_unique P (Some c) None (p, l, m) g = absurd (g c p l)
-  highest_unique P (Some c) (Some d) (p, l, m) (q, l', m') =
-      let a = m d q l' in
-      let z = m' c p l in
-      let e : c ≡ d = omega (arith, ints) in
-      ap Some e
-
-  -- the same of columns that are the same
-  pub highest_same : (P Q : ℤ → Type 0) (r : Option ℤ) → ((k : ℤ) → P k → Q k) → ((k : ℤ) → Q k → P k) → Highest b P r → Highest b Q r
-  highest_same P Q None f g h = λ k q l. h k (g k q) l
-  highest_same P Q (Some c) f g (p, l, m) = (f c p, l, λ k q n. m k (g k q) n)
+  highest_unique P r s h g = grind (arith, ints)
 
   -- the first of a falling list below the limit
   pub highest_listed : (cs : List ℤ) → Falling cs → Highest b (Listed cs) (first_below b cs)
   highest_listed [] f = λ k i l. i
-  highest_listed (c ∷ cs) (a, f) =
-      cond_both (lt_z c b) (Some c) (first_below b cs) (Highest b (Listed (c ∷ cs)))
-      (λ e. (inl refl, omega (arith, ints), λ k i l. elim i [ inl q ↦ omega (arith, ints) | inr j ↦ (let z = in_below c cs k a j in omega (arith, ints)) ]))
-      (λ e. later (first_below b cs) (omega (arith, ints)) (highest_listed cs f))
-    where
-      later : (r : Option ℤ) → b ≤ℤ c → Highest b (Listed cs) r → Highest b (Listed (c ∷ cs)) r
-      later None g h = λ k i l. elim i [ inl q ↦ omega (arith, ints) | inr j ↦ h k j l ]
-      later (Some d) g (i, l, m) = (inr i, l, λ k j n. elim j [ inl q ↦ absurd (omega (arith, ints)) | inr j' ↦ m k j' n ])
+  highest_listed (c ∷ cs) (a, f) = grind (arith, ints, in_below c cs, highest_listed cs f)
 
   pub first_below_is : (ps : List Part) (r : Option ℤ) → Highest b (Occupied ps) r → r ≡ first_below b (columns ps)
-  first_below_is ps r h =
-      highest_unique (Occupied ps) r (first_below b (columns ps)) h
-      (highest_same (Listed (columns ps)) (Occupied ps) (first_below b (columns ps)) (columns_occupied ps) (occupied_columns ps) (highest_listed (columns ps) (columns_fall ps)))
+  first_below_is ps r h = grind (arith, ints, highest_unique, columns_occupied, occupied_columns, highest_listed (columns ps) (columns_fall ps))
 
 -- where all lie below the limit, the first below it is the first
 pub first_is : (b : ℤ) (cs : List ℤ) → AllByRecursion (λ c. c <ℤ b) cs → first_below b cs ≡ first_column cs
-first_is b [] h = refl
-first_is b (c ∷ cs) h = cond_both (lt_z c b) (Some c) (first_below b cs) (λ (r : Option ℤ). r ≡ Some c) (λ e. refl) (λ e. absurd (omega (arith, ints, h.0)))
+first_is b cs h = grind (arith, ints)
 
 -- ---- the greatest of the columns that some terms have, part after part
 -- the greater of two, as `max` picks it
@@ -95,15 +53,7 @@ abbrev pub picked : ℤ → ℤ → ℤ
 picked p z = max_by_ordering (int_cmp p z) p z
 
 picked_is : (p z : ℤ) → int_max p z ≡ picked p z
-picked_is p z =
-    cond_both (lt_z p z) Less (cond (lt_z z p) Greater Equal) (λ o. int_max p z ≡ max_by_ordering o p z)
-    (λ e. omega (arith, ints, clamps))
-    (λ e. cond_both (lt_z z p) Greater Equal (λ o. int_max p z ≡ max_by_ordering o p z) (λ f. omega (arith, ints, clamps)) (λ f. omega (arith, ints, clamps)))
-
-ungrouped : {A B C : Type 0} → (A ⊎ B) ⊎ C → A ⊎ (B ⊎ C)
-ungrouped (inl (inl a)) = inl a
-ungrouped (inl (inr b)) = inr (inl b)
-ungrouped (inr c) = inr (inr c)
+picked_is p z = grind (arith, ints)
 
 module _ {X : Type 0} (b : ℤ) (part_at : X → Part) (h : X → Option ℤ) (each : (x : X) → Highest b (Occupies (part_at x)) (h x)) where
   -- the greatest of a list of columns, from one on
@@ -115,21 +65,19 @@ module _ {X : Type 0} (b : ℤ) (part_at : X → Part) (h : X → Option ℤ) (e
 
   greatest_more : (P : ℤ → Type 0) (a : ℤ) (x : X) (xs : List X) → Highest b P (Some a) → ((Q : ℤ → Type 0) (c : ℤ) → Highest b Q (Some c) → Highest b (Or Q xs) (from c xs))
       → (r : Option ℤ) → Highest b (Occupies (part_at x)) r → Highest b (Or P (x ∷ xs)) (Some (fold picked a (cons_option r (filter_map h xs))))
-  greatest_more P a x xs m further None n =
-      highest_same b (λ k. Occupies (part_at x) k ⊎ Or P xs k) (Or P (x ∷ xs)) (from a xs) (λ k. swap) (λ k. swap)
-      (highest_either b (Occupies (part_at x)) (Or P xs) None (from a xs) n (further P a m))
+  greatest_more P a x xs m further None n = grind (arith, ints, further P a m)
   greatest_more P a x xs m further (Some c) n =
       let both = λ (k : ℤ). P k ⊎ Occupies (part_at x) k in
       let two : Highest b both (Some (picked a c)) = subst (λ (z : ℤ). Highest b both (Some z)) (picked_is a c) (highest_either b P (Occupies (part_at x)) (Some a) (Some c) m n) in
-      highest_same b (Or both xs) (Or P (x ∷ xs)) (from (picked a c) xs) (λ k. ungrouped) (λ k. regrouped) (further both (picked a c) two)
+      grind (arith, ints, further both (picked a c) two)
 
   greatest_from : (xs : List X) (P : ℤ → Type 0) (a : ℤ) → Highest b P (Some a) → Highest b (Or P xs) (from a xs)
-  greatest_from [] P a m = highest_same b P (λ k. P k ⊎ ⊥) (Some a) (λ k p. inl p) (λ k o. elim o [ inl p ↦ p | inr e ↦ absurd e ]) m
+  greatest_from [] P a m = grind (arith, ints)
   greatest_from (x ∷ xs) P a m = greatest_more P a x xs m (greatest_from xs) (h x) (each x)
 
   greatest_first : (x : X) (xs : List X) → Highest b (Occupied (map part_at xs)) (reduce picked (filter_map h xs)) → (r : Option ℤ) → Highest b (Occupies (part_at x)) r
       → Highest b (Or (Occupies (part_at x)) xs) (reduce picked (cons_option r (filter_map h xs)))
-  greatest_first x xs rest None n = highest_either b (Occupies (part_at x)) (Occupied (map part_at xs)) None (reduce picked (filter_map h xs)) n rest
+  greatest_first x xs rest None n = grind (arith, ints)
   greatest_first x xs rest (Some c) n = greatest_from xs (Occupies (part_at x)) c n
 
   pub greatest_of_all : (xs : List X) → Highest b (Occupied (map part_at xs)) (reduce picked (filter_map h xs))

@@ -1,13 +1,12 @@
 -- A column's total and count, one listed term after the other.
-use Rattle.std.proofs.Common.{◌≡◌, ℕ, ◌+◌, ◌^◌, ◌<◌, ◌≤◌, Bool, cond, List, [], ◌∷◌, ◌++◌, map, length, get_or, take, ℤ, pos, ◌+ℤ◌, nat_abs, sym, ap, ◌∙◌, ap₂, subst, mod-lt, arith, pow_pos, w64, SFits, to_z, of_z}
+use Rattle.std.proofs.Common.{◌≡◌, ℕ, ◌+◌, ◌^◌, ◌<◌, ◌≤◌, Bool, cond, List, [], ◌∷◌, ◌++◌, map, length, get_or, take, ℤ, pos, ◌+ℤ◌, nat_abs, sym, ap, ◌∙◌, ap₂, arith, w64, SFits, to_z, of_z}
 use lib.Signed.{lt_z}
 use borrow.Author.Differences.{ints}
 use Rattle.std.proofs.lemmas.List.{take_more, take_all, length-map, length-take-le, map-append}
 use Rattle.exact.specs.Integers.{signed}
-use Rattle.exact.proofs.Integers.{signed_within}
 use Rattle.batch.specs.Term.{Term, column_weight}
 use Rattle.column.specs.declared.term.CountedTerm.{CountedTerm}
-use Rattle.column.specs.Parts.{Part, low, units}
+use Rattle.column.specs.Parts.{Part, low}
 use Rattle.column.specs.Columns.{digit, column_total}
 use Rattle.column.specs.Ends.{reaching_below}
 use Rattle.column.specs.Listed.{listed_part, parts_listed}
@@ -28,10 +27,7 @@ total_small ps k h =
     omega (arith, ints, d)
 
 digit_small : (p : Part) (k : ℤ) → nat_abs (signed p.negative (digit p k)) < 2 ^ 32
-digit_small p k =
-    let l = mod-lt (units p (column_weight k)) (pow_pos 32) in
-    let s = signed_within p.negative (digit p k) (digit p k) (omega arith) in
-    omega (arith, ints, s)
+digit_small p k = grind (arith, ints)
 
 -- the sum of a 64-bit total and a digit
 abbrev pub summed : ℤ → ℤ → ℤ
@@ -48,13 +44,13 @@ module _ (ts : List Term) (xs : List CountedTerm) (k : ℤ) (i : ℕ) where
   -- zs is how the code reads them
   module _ (t : ℤ) (n : ℕ) (w : Gathered (first_parts i) k t n) (few : length xs ≤ 1024) (zs : List CountedTerm) (same : zs ≡ xs) (within : i ≤ length zs) where
     few_first : length (first_parts i) ≤ 1024
-    few_first = let l = ap (length {A = CountedTerm}) same in first_few few (omega (arith, l, within))
+    few_first = grind (arith, ints, first_few)
 
     pub gathered_small : (nat_abs t < 2 ^ 42) × (n ≤ 1024)
     gathered_small = (rw w.total (total_small (first_parts i) k few_first), omega (arith, w.below, tally_le (λ p. lt_z (low p) (column_weight k)) (first_parts i), few_first))
 
     pub sum_fits : (c : CountedTerm) (d : ℤ) → d ≡ signed (listed_part ts c).negative (digit (listed_part ts c) k) → SFits w64 (summed t d)
-    sum_fits c d e = let s = gathered_small.0 in let r : nat_abs d < 2 ^ 32 = rw e (digit_small (listed_part ts c) k) in omega (arith, ints)
+    sum_fits c d e = grind (arith, ints, digit_small, gathered_small)
 
     -- one term more
     pub gathered_more : (c : CountedTerm) → i < length zs → (d : ℤ) (b : Bool) (o : ℕ) → d ≡ signed (listed_part ts (get_or zs i c)).negative (digit (listed_part ts (get_or zs i c)) k)
@@ -75,7 +71,4 @@ module _ (ts : List Term) (xs : List CountedTerm) (k : ℤ) (i : ℕ) where
 
     -- all of them, at the caller's column
     pub gathered_all : (b : ℤ) → length zs ≤ i → k ≡ b → Gathered (parts_listed ts xs) b t n
-    gathered_all b h f =
-        let l = ap (length {A = CountedTerm}) same in
-        let all : take i xs ≡ xs = take_all i xs (omega (arith, l, h)) in
-        subst (λ (x : ℤ). Gathered (parts_listed ts xs) x t n) f (subst (λ (ys : List CountedTerm). Gathered (parts_listed ts ys) k t n) all w)
+    gathered_all b h f = grind (arith, ints, take_all)

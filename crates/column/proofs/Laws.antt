@@ -1,5 +1,5 @@
 -- The laws of the columns and of the ends.
-use Rattle.std.proofs.Common.{◌≡◌, ℕ, ◌-◌, ◌*◌, ◌^◌, List, [], ◌∷◌, ℤ, pos, ◌+ℤ◌, neg_ℤ, ◌≤ℤ◌, refl, ap, subst, arith}
+use Rattle.std.proofs.Common.{◌≡◌, ℕ, ◌-◌, ◌*◌, ◌^◌, List, [], ◌∷◌, ℤ, pos, ◌+ℤ◌, ◌≤ℤ◌, ap, subst, arith}
 use borrow.Author.Differences.{ints}
 use Rattle.exact.specs.Integers.{gap, lesser}
 use Rattle.exact.specs.Dyadic.{Dyadic, dyadic, plus, ◌≤ᴰ◌, ◌≈ᴰ◌}
@@ -29,12 +29,10 @@ totals_bounded ps k = let w = total_within ps k in record { from = w.0; upto = w
 -- ---- the ends, by weights
 -- what a column's ends are, whether others follow or not
 pub lower_is : (ps : List Part) (c : ℤ) (cs : List ℤ) → Link ps c cs → lower_at ps (column_weight c) (reach c cs) ≡ lower_end ps c cs
-lower_is ps c [] l = ap (λ (n : ℕ). plus (sum_down_to ps c) (dyadic (neg_ℤ (pos n)) (column_weight c))) l.final
-lower_is ps c (d ∷ ds) l = refl
+lower_is ps c cs h = grind (arith, ints)
 
 pub upper_is : (ps : List Part) (c : ℤ) (cs : List ℤ) → Link ps c cs → upper_at ps (column_weight c) (reach c cs) ≡ upper_end ps c cs
-upper_is ps c [] l = ap (λ (n : ℕ). plus (sum_down_to ps c) (dyadic (pos n) (column_weight c))) l.final
-upper_is ps c (d ∷ ds) l = refl
+upper_is ps c cs h = grind (arith, ints)
 
 pub ends_nested : EndsNested
 ends_nested ps s c d ds (above, e) =

@@ -2,7 +2,7 @@
 use Rattle.std.proofs.Common.{◌≡◌, ℕ, zero, suc, List, [], ◌∷◌, ℤ, pos, ◌≤ℤ◌, ◌<ℤ◌, refl, inl, inr, arith}
 use borrow.Author.Differences.{ints}
 use Rattle.std.specs.List.{AllByRecursion, filter_map, reduce}
-use Rattle.batch.specs.Term.{Term, not_a_number, infinite, signed_zero, regular, top_weight, farthest_top, Limited, Batchable}
+use Rattle.batch.specs.Term.{Term, top_weight, farthest_top, Limited, Batchable}
 use Rattle.batch.specs.Lookup.{top_of_term}
 use Rattle.column.specs.declared.term.CountedTerm.{CountedTerm}
 use Rattle.column.specs.Parts.{low, top}
@@ -19,10 +19,7 @@ highest_of_all ts b = greatest_of_all b (listed_part ts) (highest_occupied ts b)
 
 -- ---- all columns lie below the largest number of 32 bits
 top_limited : (t : Term) → Limited t → top_weight t ≤ℤ pos farthest_top
-top_limited not_a_number l = omega (arith, ints)
-top_limited (infinite s) l = omega (arith, ints)
-top_limited (signed_zero s) l = omega (arith, ints)
-top_limited (regular s m q) l = l.not_above
+top_limited t h = grind (arith, ints)
 
 pub top_at_limited : (ts : List Term) → AllByRecursion Limited ts → (i : ℕ) → top_of_term ts i ≤ℤ pos farthest_top
 top_at_limited [] l i = omega (arith, ints)
@@ -31,14 +28,11 @@ top_at_limited (t ∷ ts) (h, l) (suc i) = top_at_limited ts l i
 
 occupied_limited : (ts : List Term) → AllByRecursion Limited ts → (xs : List CountedTerm) (k : ℤ) → Occupied (parts_listed ts xs) k → k <ℤ pos 2147483647
 occupied_limited ts l [] k o = elim o [ ]
-occupied_limited ts l (x ∷ xs) k (inl o) = omega (arith, ints, o, listed_top ts x, top_at_limited ts l x.place)
-occupied_limited ts l (x ∷ xs) k (inr o) = occupied_limited ts l xs k o
+occupied_limited ts l (x ∷ xs) k o = grind (arith, ints, listed_top ts x, top_at_limited ts l x.place, occupied_limited ts l xs k)
 
 all_listed : (P : ℤ → Type 0) (cs : List ℤ) → ((k : ℤ) → Listed cs k → P k) → AllByRecursion P cs
 all_listed P [] f = tt
 all_listed P (c ∷ cs) f = (f c (inl refl), all_listed P cs (λ k i. f k (inr i)))
 
 pub first_of_all : (ts : List Term) → Batchable ts → (xs : List CountedTerm) → first_below (pos 2147483647) (columns (parts_listed ts xs)) ≡ first_column (columns (parts_listed ts xs))
-first_of_all ts l xs =
-    let ps = parts_listed ts xs in
-    first_is (pos 2147483647) (columns ps) (all_listed (λ c. c <ℤ pos 2147483647) (columns ps) (λ k i. occupied_limited ts l.each_limited xs k (columns_occupied ps k i)))
+first_of_all ts l xs = grind (arith, ints, all_listed, columns_occupied, first_is, occupied_limited)

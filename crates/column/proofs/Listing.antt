@@ -1,81 +1,39 @@
 -- The list of the columns: falling, and just the occupied ones.
-use Rattle.std.proofs.Common.{◌≡◌, ℕ, zero, suc, cond, ◌⊎◌, ◌↔◌, List, [], ◌∷◌, ℤ, pos, negsuc, ◌+ℤ◌, ◌-ℤ◌, ◌≤ℤ◌, ◌<ℤ◌, ◌∙◌, inl, inr, arith}
-use lib.Signed.{lt_z}
+use Rattle.std.proofs.Common.{◌≡◌, ℕ, zero, suc, ◌⊎◌, ◌↔◌, List, [], ◌∷◌, ℤ, pos, ◌+ℤ◌, ◌≤ℤ◌, ◌<ℤ◌, inr, arith}
 use borrow.Author.Differences.{ints}
 use Rattle.std.specs.List.{AllByRecursion}
-use Rattle.std.proofs.lemmas.Bool.{cond_both}
-use Rattle.std.proofs.lemmas.Int.{by_lt_z}
 use Rattle.std.proofs.ByRecursion.{All-weaker}
 use Rattle.batch.specs.Term.{column_weight}
-use Rattle.column.specs.Parts.{Part, top}
+use Rattle.column.specs.Parts.{Part}
 use Rattle.column.specs.Columns.{Occupies, Occupied, column_of, height, with_column, with_columns, columns, Falling, Listed}
-
-either : {A B C D : Type 0} → (A → C) → (B → D) → A ⊎ B → C ⊎ D
-either f g (inl a) = inl (f a)
-either f g (inr b) = inr (g b)
-
-pub swap : {A B C : Type 0} → A ⊎ (B ⊎ C) → B ⊎ (A ⊎ C)
-swap (inl a) = inr (inl a)
-swap (inr (inl b)) = inl b
-swap (inr (inr c)) = inr (inr c)
 
 in_from : (k : ℤ) (cs : List ℤ) (x : ℤ) → Listed (with_column k cs) x → (x ≡ k) ⊎ Listed cs x
 in_from k [] x = λ h. h
-in_from k (c ∷ cs) x =
-    cond_both (lt_z c k) (k ∷ c ∷ cs) (cond (lt_z k c) (c ∷ with_column k cs) (c ∷ cs)) (λ l. Listed l x → (x ≡ k) ⊎ Listed (c ∷ cs) x)
-    (λ e i. i)
-    (λ e. cond_both (lt_z k c) (c ∷ with_column k cs) (c ∷ cs) (λ l. Listed l x → (x ≡ k) ⊎ Listed (c ∷ cs) x) (λ f i. swap (either (λ a. a) (in_from k cs x) i)) (λ f i. inr i))
+in_from k (c ∷ cs) x = grind (arith, ints, in_from k cs x)
 
 in_to : (k : ℤ) (cs : List ℤ) (x : ℤ) → (x ≡ k) ⊎ Listed cs x → Listed (with_column k cs) x
 in_to k [] x = λ h. h
-in_to k (c ∷ cs) x =
-    cond_both (lt_z c k) (k ∷ c ∷ cs) (cond (lt_z k c) (c ∷ with_column k cs) (c ∷ cs)) (λ l. (x ≡ k) ⊎ Listed (c ∷ cs) x → Listed l x)
-    (λ e i. i)
-    (λ e. cond_both (lt_z k c) (c ∷ with_column k cs) (c ∷ cs) (λ l. (x ≡ k) ⊎ Listed (c ∷ cs) x → Listed l x) (λ f i. either (λ a. a) (in_to k cs x) (swap i)) (λ f. same (omega (arith, ints))))
-  where
-    same : k ≡ c → (x ≡ k) ⊎ Listed (c ∷ cs) x → Listed (c ∷ cs) x
-    same q (inl e) = inl (e ∙ q)
-    same q (inr i) = i
+in_to k (c ∷ cs) x = grind (arith, ints, in_to k cs x)
 
 all_with : (P : ℤ → Type 0) (k : ℤ) (cs : List ℤ) → P k → AllByRecursion P cs → AllByRecursion P (with_column k cs)
 all_with P k [] h a = (h, a)
-all_with P k (c ∷ cs) h a =
-    cond_both (lt_z c k) (k ∷ c ∷ cs) (cond (lt_z k c) (c ∷ with_column k cs) (c ∷ cs)) (AllByRecursion P)
-    (λ e. (h, a))
-    (λ e. cond_both (lt_z k c) (c ∷ with_column k cs) (c ∷ cs) (AllByRecursion P) (λ f. (a.0, all_with P k cs h a.1)) (λ f. a))
+all_with P k (c ∷ cs) h a = grind (arith, ints, all_with P k cs h a.1)
 
 falling_with : (k : ℤ) (cs : List ℤ) → Falling cs → Falling (with_column k cs)
 falling_with k [] d = (tt, tt)
-falling_with k (c ∷ cs) (a, d) =
-    cond_both (lt_z c k) (k ∷ c ∷ cs) (cond (lt_z k c) (c ∷ with_column k cs) (c ∷ cs)) Falling
-    (λ e. ((omega (arith, ints), All-weaker (λ x. x <ℤ c) (λ x. x <ℤ k) (λ x l. omega (arith, ints)) cs a), (a, d)))
-    (λ e. cond_both (lt_z k c) (c ∷ with_column k cs) (c ∷ cs) Falling (λ f. (all_with (λ x. x <ℤ c) k cs (omega (arith, ints)) a, falling_with k cs d)) (λ f. (a, d)))
+falling_with k (c ∷ cs) (a, d) = grind (arith, ints, All-weaker, all_with, falling_with k cs d)
 
 -- ---- a run of columns
 abbrev Run : ℤ → ℕ → ℤ → Type 0
 Run k n x = (k ≤ℤ x) × (x <ℤ (k +ℤ pos n))
 
-run_last : (k : ℤ) (n : ℕ) (x : ℤ) → Run k (suc n) x → (x ≡ k +ℤ pos n) ⊎ Run k n x
-run_last k n x (a, b) = by_lt_z x (k +ℤ pos n) (λ l. inr (a, l)) (λ l. inl (omega (arith, ints)))
-
-last_run : (k : ℤ) (n : ℕ) (x : ℤ) → (x ≡ k +ℤ pos n) ⊎ Run k n x → Run k (suc n) x
-last_run k n x (inl e) = (omega (arith, ints), omega (arith, ints))
-last_run k n x (inr (a, b)) = (a, omega (arith, ints))
-
-pub regrouped : {A B C : Type 0} → A ⊎ (B ⊎ C) → (A ⊎ B) ⊎ C
-regrouped (inl a) = inl (inl a)
-regrouped (inr (inl b)) = inl (inr b)
-regrouped (inr (inr c)) = inr c
-
 run_from : (k : ℤ) (n : ℕ) (cs : List ℤ) (x : ℤ) → Listed (with_columns k n cs) x → Run k n x ⊎ Listed cs x
 run_from k zero cs x i = inr i
-run_from k (suc n) cs x i = either (last_run k n x) (λ j. j) (regrouped (either (λ e. e) (run_from k n cs x) (in_from (k +ℤ pos n) (with_columns k n cs) x i)))
+run_from k (suc n) cs x i = grind (arith, ints, in_from, run_from k n cs x)
 
 run_to : (k : ℤ) (n : ℕ) (cs : List ℤ) (x : ℤ) → Run k n x ⊎ Listed cs x → Listed (with_columns k n cs) x
-run_to k zero cs x (inl (a, b)) = absurd (omega (arith, ints))
-run_to k zero cs x (inr i) = i
-run_to k (suc n) cs x (inl r) = in_to (k +ℤ pos n) (with_columns k n cs) x (either (λ e. e) (λ s. run_to k n cs x (inl s)) (run_last k n x r))
-run_to k (suc n) cs x (inr i) = in_to (k +ℤ pos n) (with_columns k n cs) x (inr (run_to k n cs x (inr i)))
+run_to k zero cs x i = grind (arith, ints)
+run_to k (suc n) cs x i = grind (arith, ints, in_to, run_to k n cs x)
 
 falling_run : (k : ℤ) (n : ℕ) (cs : List ℤ) → Falling cs → Falling (with_columns k n cs)
 falling_run k zero cs d = d
@@ -83,14 +41,10 @@ falling_run k (suc n) cs d = falling_with (k +ℤ pos n) (with_columns k n cs) (
 
 -- ---- the columns of a part
 pub floor_is : (z : ℤ) → (column_weight (column_of z) ≤ℤ z) × (z <ℤ column_weight (column_of z +ℤ pos 1))
-floor_is (pos a) = (omega (arith, ints), omega (arith, ints))
-floor_is (negsuc a) = (omega (arith, ints), omega (arith, ints))
+floor_is z = grind (arith, ints)
 
 run_occupies : (p : Part) (k : ℤ) → Run (column_of p.weight) (height p) k ↔ Occupies p k
-run_occupies p k =
-    let a = floor_is p.weight in
-    let b = floor_is (top p -ℤ pos 1) in
-    ((λ r. (omega (arith, ints), omega (arith, ints))), (λ o. (omega (arith, ints), omega (arith, ints))))
+run_occupies p k = grind (arith, ints)
 
 pub columns_fall : (ps : List Part) → Falling (columns ps)
 unfolding columns
@@ -100,9 +54,9 @@ columns_fall (p ∷ ps) = falling_run (column_of p.weight) (height p) (columns p
 pub columns_occupied : (ps : List Part) (k : ℤ) → Listed (columns ps) k → Occupied ps k
 unfolding columns
 columns_occupied [] k i = i
-columns_occupied (p ∷ ps) k i = either (run_occupies p k).0 (columns_occupied ps k) (run_from (column_of p.weight) (height p) (columns ps) k i)
+columns_occupied (p ∷ ps) k i = grind (arith, ints, run_occupies, columns_occupied ps k, run_from)
 
 pub occupied_columns : (ps : List Part) (k : ℤ) → Occupied ps k → Listed (columns ps) k
 unfolding columns
 occupied_columns [] k i = i
-occupied_columns (p ∷ ps) k i = run_to (column_of p.weight) (height p) (columns ps) k (either (run_occupies p k).1 (occupied_columns ps k) i)
+occupied_columns (p ∷ ps) k i = grind (arith, ints, run_occupies, occupied_columns ps k, run_to)

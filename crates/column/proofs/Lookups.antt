@@ -1,10 +1,9 @@
 -- What a batch answers of a listed term is what its part has.
-use Rattle.std.proofs.Common.{◌≡◌, ℕ, zero, suc, ◌/◌, ◌%◌, ◌^◌, Bool, List, [], ◌∷◌, map, get_or, ℤ, pos, sym, refl, ap, ◌∙◌, ap₂, zero-mul, arith}
-use native.Mathlib.Nat.{zero-div}
+use Rattle.std.proofs.Common.{◌≡◌, ℕ, zero, suc, Bool, List, [], ◌∷◌, map, get_or, ℤ, pos, sym, refl, ◌∙◌, ap₂, arith}
 use lib.Ieee.Digits.{size-le}
 use borrow.Author.Differences.{ints}
-use Rattle.exact.specs.Integers.{signed, gap}
-use Rattle.batch.specs.Term.{Term, not_a_number, infinite, signed_zero, regular, low_weight, top_weight, digit_at, column_weight}
+use Rattle.exact.specs.Integers.{signed}
+use Rattle.batch.specs.Term.{Term, not_a_number, infinite, signed_zero, regular, low_weight, top_weight, digit_at}
 use Rattle.batch.specs.Lookup.{low_of_term, top_of_term, digit_of_term}
 use Rattle.column.specs.declared.term.CountedTerm.{CountedTerm}
 use Rattle.column.specs.Parts.{Part, part, low, top}
@@ -13,25 +12,17 @@ use Rattle.column.specs.Listed.{signed_part, listed_part}
 
 -- ---- a part of 0
 zero_digit : (s : Bool) (k : ℤ) → digit (part s 0 (pos 0)) k ≡ 0
-zero_digit s k =
-    let w = column_weight k in
-    ap (λ (n : ℕ). n / 2 ^ gap w (pos 0) % 2 ^ 32) (zero-mul (2 ^ gap (pos 0) w)) ∙ ap (λ (n : ℕ). n % 2 ^ 32) (zero-div (2 ^ gap w (pos 0)))
+zero_digit s k = omega (arith, ints)
 
 zero_top : (s : Bool) → top (part s 0 (pos 0)) ≡ pos 0
 zero_top s = let z = size-le 0 0 (omega arith) in omega (arith, ints)
 
 -- ---- one term
 signed_digit : (s : Bool) (k : ℤ) (t : Term) → digit (signed_part s t) k ≡ digit_at k t
-signed_digit s k not_a_number = zero_digit s k
-signed_digit s k (infinite r) = zero_digit s k
-signed_digit s k (signed_zero r) = zero_digit s k
-signed_digit s k (regular r m q) = refl
+signed_digit s k t = grind (arith, ints)
 
 signed_low : (s : Bool) (t : Term) → low (signed_part s t) ≡ low_weight t
-signed_low s not_a_number = refl
-signed_low s (infinite r) = refl
-signed_low s (signed_zero r) = refl
-signed_low s (regular r m q) = refl
+signed_low s t = grind (arith, ints)
 
 signed_top : (s : Bool) (t : Term) → top (signed_part s t) ≡ top_weight t
 signed_top s not_a_number = zero_top s
@@ -40,10 +31,7 @@ signed_top s (signed_zero r) = zero_top s
 signed_top s (regular r m q) = refl
 
 signed_sign : (s : Bool) (t : Term) → (signed_part s t).negative ≡ s
-signed_sign s not_a_number = refl
-signed_sign s (infinite r) = refl
-signed_sign s (signed_zero r) = refl
-signed_sign s (regular r m q) = refl
+signed_sign s t = grind (arith, ints)
 
 -- ---- the term at a place, or none
 -- what two readings agree on of each term and of none, they agree on at each place

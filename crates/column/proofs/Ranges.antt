@@ -3,8 +3,7 @@ use Rattle.std.proofs.Common.{◌≡◌, ℕ, suc, ◌+◌, ◌-◌, ◌*◌, �
 use lib.Signed.{lt_z}
 use borrow.Author.Differences.{ints}
 use Rattle.std.specs.List.{AllByRecursion}
-use Rattle.std.proofs.ByRecursion.{All-weaker, All-map, All-append}
-use Rattle.std.proofs.lemmas.List.{length-append, length-map}
+use Rattle.std.proofs.ByRecursion.{All-weaker}
 use Rattle.exact.specs.Integers.{gap}
 use Rattle.exact.specs.Dyadic.{Dyadic, dyadic, plus, total, exponent}
 use Rattle.exact.proofs.Multiples.{room}
@@ -12,11 +11,10 @@ use Rattle.exact.proofs.Scaling.{scale_mono, scale_neg, scale_abs}
 use Rattle.exact.proofs.Sums.{at_plus, BelowAll, total_above}
 use Rattle.exact.proofs.Exponents.{at_own, exponent_upto}
 use Rattle.grid.specs.Spacing.{InRange, lowest}
-use Rattle.batch.specs.Term.{Term, not_a_number, infinite, signed_zero, regular, Limited, Batchable, column_weight}
+use Rattle.batch.specs.Term.{Term, Limited, Batchable, column_weight}
 use Rattle.sheet.specs.declared.mark.Mark.{Mark}
-use Rattle.sheet.specs.declared.mark.Mark.TheVariants.{Out, In, Turned}
 use Rattle.column.specs.Parts.{Part, Regular, low, top, number, exact_sum, units}
-use Rattle.column.specs.PartsOf.{regular_part, turned, counted_part, parts_from, parts_of}
+use Rattle.column.specs.PartsOf.{counted_part, parts_from, parts_of}
 use Rattle.column.specs.Columns.{Occupied, Listed}
 use Rattle.column.specs.Ends.{cut_sum, reaching_below, lower_end, upper_end}
 use Rattle.column.specs.Claims.{DownFrom, AlwaysInRange, AllInRange}
@@ -67,8 +65,7 @@ pub record Ranged (l t : ℤ) (p : Part) : Type 0 where
 
 occupied_in : (ps : List Part) (l t k : ℤ) → AllByRecursion (Ranged l t) ps → Occupied ps k → (l <ℤ column_weight (k +ℤ pos 1)) × (column_weight k <ℤ t)
 occupied_in [] l t k a o = absurd o
-occupied_in (p ∷ ps) l t k (r, a) (inl o) = (omega (arith, ints), omega (arith, ints))
-occupied_in (p ∷ ps) l t k (r, a) (inr o) = occupied_in ps l t k a o
+occupied_in (p ∷ ps) l t k (r, a) o = grind (arith, ints, occupied_in ps l t k a)
 
 listed_occupied : (ps : List Part) (cs : List ℤ) → DownFrom ps cs → (k : ℤ) → Listed cs k → Occupied ps k
 listed_occupied ps cs (above, e) k i = columns_occupied ps k (subst (λ (l : List ℤ). Listed l k) (sym e) (further above))
@@ -105,14 +102,10 @@ module _ (ps : List Part) (s : Regular ps) (n : length ps ≤ 1024) (l t : ℤ) 
       record { from = omega (arith, ints); upto = omega (arith, ints) }
 
   lower_in : (c : ℤ) (cs : List ℤ) → DownFrom ps (c ∷ cs) → InRange (exponent (lower_end ps c cs))
-  lower_in c cs f =
-      let k = reaching_below ps (column_weight c) in
-      subst (λ (x : Dyadic). InRange (exponent x)) (lower_is ps c cs (chain ps s f.0 (c ∷ cs) f.1).0) (end_in c cs f (neg_ℤ (pos k)) (omega (arith, ints)))
+  lower_in c cs f = grind (arith, ints, lower_is, chain ps s f.0 (c ∷ cs) f.1, end_in c cs f (neg_ℤ (pos (reaching_below ps (column_weight c)))))
 
   upper_in : (c : ℤ) (cs : List ℤ) → DownFrom ps (c ∷ cs) → InRange (exponent (upper_end ps c cs))
-  upper_in c cs f =
-      let k = reaching_below ps (column_weight c) in
-      subst (λ (x : Dyadic). InRange (exponent x)) (upper_is ps c cs (chain ps s f.0 (c ∷ cs) f.1).0) (end_in c cs f (pos k) (omega (arith, ints)))
+  upper_in c cs f = grind (arith, ints, upper_is, chain ps s f.0 (c ∷ cs) f.1, end_in c cs f (pos (reaching_below ps (column_weight c))))
 
   sum_in : InRange (exponent (exact_sum ps))
   sum_in =
@@ -153,47 +146,20 @@ lowest_low = neg_ℤ (pos 1000004096)
 abbrev pub highest_top : ℤ
 highest_top = pos 1000000000
 
-regular_ranged : (t : Term) → Limited t → AllByRecursion (Ranged lowest_low highest_top) (regular_part t)
-regular_ranged not_a_number h = tt
-regular_ranged (infinite s) h = tt
-regular_ranged (signed_zero s) h = tt
-regular_ranged (regular s m q) h = (record { from = omega (arith, ints, h.few_digits, h.not_below); upto = h.not_above }, tt)
-
-counted_ranged : (k : Mark) (t : Term) → Limited t → AllByRecursion (Ranged lowest_low highest_top) (counted_part k t)
-counted_ranged Out t h = tt
-counted_ranged In t h = regular_ranged t h
-counted_ranged Turned t h =
-    All-map (Ranged lowest_low highest_top) turned (regular_part t)
-    (All-weaker (Ranged lowest_low highest_top) (λ p. Ranged lowest_low highest_top (turned p)) (λ p r. record { from = r.from; upto = r.upto }) (regular_part t) (regular_ranged t h))
-
 parts_ranged : (marks : ℕ → Mark) (i : ℕ) (ts : List Term) → AllByRecursion Limited ts → AllByRecursion (Ranged lowest_low highest_top) (parts_from marks i ts)
 parts_ranged marks i [] l = tt
-parts_ranged marks i (t ∷ ts) (h, l) =
-    All-append (Ranged lowest_low highest_top) (counted_part (marks i) t) (parts_from marks (suc i) ts) (counted_ranged (marks i) t h) (parts_ranged marks (suc i) ts l)
-
-one_regular : (t : Term) → length (regular_part t) ≤ 1
-one_regular not_a_number = omega arith
-one_regular (infinite s) = omega arith
-one_regular (signed_zero s) = omega arith
-one_regular (regular s m q) = omega arith
+parts_ranged marks i (t ∷ ts) (h, l) = grind (arith, ints, parts_ranged marks (suc i) ts l)
 
 one_counted : (k : Mark) (t : Term) → length (counted_part k t) ≤ 1
-one_counted Out t = omega arith
-one_counted In t = one_regular t
-one_counted Turned t = let o = one_regular t in omega (arith, length-map (regular_part t) turned)
+one_counted k t = grind (arith, ints)
 
 pub parts_few : (marks : ℕ → Mark) (i : ℕ) (ts : List Term) → length (parts_from marks i ts) ≤ length ts
 parts_few marks i [] = omega arith
-parts_few marks i (t ∷ ts) =
-    let a = one_counted (marks i) t in
-    let b = parts_few marks (suc i) ts in
-    omega (arith, length-append (counted_part (marks i) t) (parts_from marks (suc i) ts))
+parts_few marks i (t ∷ ts) = grind (arith, ints, one_counted (marks i) t, parts_few marks (suc i) ts)
 
 pub in_range : AlwaysInRange
-in_range marks ts l =
-    ranged (parts_of marks ts) (parts_regular marks 0 ts l.each_limited) (omega (arith, parts_few marks 0 ts, l.few)) lowest_low highest_top (parts_ranged marks 0 ts l.each_limited) (omega (arith, ints)) (omega (arith, ints))
+in_range marks ts l = grind (arith, ints, parts_few, parts_ranged, parts_regular, ranged)
 
 -- the exponent of the sum of a batch's counted terms lies well within the range
 pub sum_close : (marks : ℕ → Mark) (ts : List Term) → Batchable ts → (lowest_low ≤ℤ exponent (exact_sum (parts_of marks ts))) × (exponent (exact_sum (parts_of marks ts)) ≤ℤ (highest_top +ℤ pos 11))
-sum_close marks ts l =
-    sum_near (parts_of marks ts) (parts_regular marks 0 ts l.each_limited) (omega (arith, parts_few marks 0 ts, l.few)) lowest_low highest_top (parts_ranged marks 0 ts l.each_limited) (omega (arith, ints)) (omega (arith, ints)) (omega (arith, ints)) (omega (arith, ints))
+sum_close marks ts l = grind (arith, ints, parts_few, parts_ranged, parts_regular, sum_near)

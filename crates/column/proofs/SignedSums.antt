@@ -1,5 +1,5 @@
 -- Sums over the parts, with their signs.
-use Rattle.std.proofs.Common.{◌≡◌, ℕ, ◌+◌, ◌*◌, ◌^◌, ◌≤◌, Bool, cond, List, [], ◌∷◌, ◌++◌, length, pos, ◌+ℤ◌, neg_ℤ, ◌≤ℤ◌, sym, refl, ap, ◌∙◌, ap₂, arith}
+use Rattle.std.proofs.Common.{◌≡◌, ℕ, ◌+◌, ◌*◌, ◌^◌, ◌≤◌, Bool, cond, List, [], ◌∷◌, ◌++◌, length, pos, ◌+ℤ◌, neg_ℤ, ◌≤ℤ◌, refl, ap, ap₂, arith}
 use borrow.Author.Differences.{ints}
 use Rattle.std.specs.List.{AllByRecursion}
 use Rattle.exact.specs.Integers.{signed, scale}
@@ -9,15 +9,11 @@ use Rattle.column.specs.Parts.{Part, signed_sum, tally}
 
 pub sum_plus : (f g : Part → ℕ) (ps : List Part) → signed_sum (λ p. f p + g p) ps ≡ signed_sum f ps +ℤ signed_sum g ps
 sum_plus f g [] = refl
-sum_plus f g (p ∷ ps) =
-    let a = signed_plus p.negative (f p) (g p) in
-    let b = sum_plus f g ps in
-    omega (arith, ints)
+sum_plus f g (p ∷ ps) = omega (arith, ints, signed_plus p.negative (f p) (g p), sum_plus f g ps)
 
 pub sum_scale : (f : Part → ℕ) (k : ℕ) (ps : List Part) → signed_sum (λ p. f p * 2 ^ k) ps ≡ scale (signed_sum f ps) k
 sum_scale f k [] = omega (arith, ints)
-sum_scale f k (p ∷ ps) =
-    ap₂ ◌+ℤ◌ (sym (scale_signed p.negative (f p) k)) (sum_scale f k ps) ∙ sym (scale_plus (signed p.negative (f p)) (signed_sum f ps) k)
+sum_scale f k (p ∷ ps) = grind (arith, ints, scale_plus, scale_signed, sum_scale f k ps)
 
 pub sum_same : (f g : Part → ℕ) (ps : List Part) → AllByRecursion (λ p. f p ≡ g p) ps → signed_sum f ps ≡ signed_sum g ps
 sum_same f g [] h = refl
@@ -27,10 +23,7 @@ sum_same f g (p ∷ ps) (e, h) = ap₂ ◌+ℤ◌ (ap (signed p.negative) e) (su
 pub sum_within : (f : Part → ℕ) (t : Part → Bool) (b : ℕ) (ps : List Part) → AllByRecursion (λ p. f p ≤ cond (t p) 1 0 * b) ps
     → (neg_ℤ (pos (tally t ps * b)) ≤ℤ signed_sum f ps) × (signed_sum f ps ≤ℤ pos (tally t ps * b))
 sum_within f t b [] h = (omega (arith, ints), omega (arith, ints))
-sum_within f t b (p ∷ ps) (l, h) =
-    let a = signed_within p.negative (f p) (cond (t p) 1 0 * b) l in
-    let i = sum_within f t b ps h in
-    (omega (arith, ints), omega (arith, ints))
+sum_within f t b (p ∷ ps) (l, h) = omega (arith, ints, signed_within p.negative (f p) (cond (t p) 1 0 * b) l, sum_within f t b ps h)
 
 pub tally_le : (t : Part → Bool) (ps : List Part) → tally t ps ≤ length ps
 tally_le t [] = omega arith

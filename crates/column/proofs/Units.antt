@@ -1,32 +1,25 @@
 -- One part, cut at two weights.
-use Rattle.std.proofs.Common.{◌≡◌, ℕ, ◌+◌, ◌*◌, ◌/◌, ◌%◌, ◌^◌, ◌<◌, ◌⊎◌, ℤ, ◌≤ℤ◌, sym, ap, ◌∙◌, inl, inr, lt_of_lt_of_le, mod-eq_of_lt, div-one, arith, pow_mono, shl_lt, shr-shr, shr_lt}
+use Rattle.std.proofs.Common.{◌≡◌, ◌+◌, ◌*◌, ◌/◌, ◌%◌, ◌^◌, ◌<◌, ◌⊎◌, ℤ, ◌≤ℤ◌, sym, ap, inl, inr, lt_of_lt_of_le, mod-eq_of_lt, arith, pow_mono, shl_lt, shr-shr, shr_lt}
 use native.Mathlib.Nat.{mul-mod_left}
 use lib.Pow.{split}
 use lib.Ieee.{size}
 use lib.Ieee.Digits.{size-lt}
 use borrow.Author.Differences.{ints}
-use Rattle.exact.specs.Integers.{gap, lesser}
+use Rattle.exact.specs.Integers.{gap}
 use Rattle.exact.proofs.Multiples.{multiple_coarser}
 use Rattle.batch.proofs.Units.{units_at}
 use Rattle.column.specs.Parts.{Part, top, units}
 
 -- a cut of a cut
 pub units_coarser : (p : Part) (w v : ℤ) → v ≤ℤ w → units p w ≡ units p v / 2 ^ gap w v
-units_coarser p w v h =
-    let z = lesser p.weight v in
-    let n = p.significand * 2 ^ gap p.weight z in
-    let e : gap w z ≡ gap v z + gap w v = omega (arith, ints) in
-    units_at p.significand p.weight w z (omega (arith, ints)) (omega (arith, ints))
-    ∙ ap (λ (k : ℕ). n / 2 ^ k) e
-    ∙ sym (shr-shr n (gap v z) (gap w v))
-    ∙ ap (λ (k : ℕ). k / 2 ^ gap w v) (sym (units_at p.significand p.weight v z (omega (arith, ints)) (omega (arith, ints))))
+units_coarser p w v h = grind (arith, ints, shr-shr, units_at)
 
 pub units_split : (p : Part) (w v : ℤ) → v ≤ℤ w → units p v ≡ units p w * 2 ^ gap w v + units p v % 2 ^ gap w v
 units_split p w v h = rw (units_coarser p w v h) (sym (split (units p v) (gap w v)))
 
 -- below the part's lowest weight nothing is cut off
 pub units_whole : (p : Part) (z : ℤ) → z ≤ℤ p.weight → units p z ≡ p.significand * 2 ^ gap p.weight z
-units_whole p z h = let e : gap z p.weight ≡ 0 = omega (arith, ints) in rw e (div-one (p.significand * 2 ^ gap p.weight z))
+units_whole p z h = grind (arith, ints)
 
 -- a part from w up has nothing between z and w
 pub units_none : (p : Part) (w z : ℤ) → z ≤ℤ w → w ≤ℤ p.weight → units p z % 2 ^ gap w z ≡ 0
@@ -44,7 +37,5 @@ Clear w v p = (w ≡ v) ⊎ ((top p ≤ℤ v) ⊎ (w ≤ℤ p.weight))
 
 pub clear_mod : (p : Part) (w v z : ℤ) → z ≤ℤ v → v ≤ℤ w → Clear w v p → units p z % 2 ^ gap w z ≡ units p z % 2 ^ gap v z
 clear_mod p w v z h g (inl e) = ap (λ (x : ℤ). units p z % 2 ^ gap x z) e
-clear_mod p w v z h g (inr (inl t)) =
-    let a = units_small p v z h t in
-    mod-eq_of_lt (lt_of_lt_of_le a (pow_mono (omega (arith, ints)))) ∙ sym (mod-eq_of_lt a)
-clear_mod p w v z h g (inr (inr t)) = units_none p w z (omega (arith, ints)) t ∙ sym (units_none p v z h (omega (arith, ints)))
+clear_mod p w v z h g (inr (inl t)) = grind (arith, ints, lt_of_lt_of_le, mod-eq_of_lt, pow_mono, units_small)
+clear_mod p w v z h g (inr (inr t)) = grind (arith, ints, units_none)

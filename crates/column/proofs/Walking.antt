@@ -1,5 +1,5 @@
 -- The walk from the first column down to the depth.
-use Rattle.std.proofs.Common.{◌≡◌, false, List, [], ◌∷◌, ◌++◌, ℤ, ◌<ℤ◌, Some, Option, sym, refl, ap, ◌∙◌, subst, ⊎_elim, arith}
+use Rattle.std.proofs.Common.{◌≡◌, false, List, [], ◌∷◌, ◌++◌, ℤ, ◌<ℤ◌, Some, Option, sym, append_assoc, ◌∙◌, ⊎_elim, arith}
 use lib.Signed.{lt_z}
 use borrow.Author.Differences.{ints}
 use Rattle.std.specs.List.{AllByRecursion}
@@ -16,16 +16,11 @@ use Rattle.column.specs.Walk.{first_column, first_below}
 use Rattle.column.specs.Claims.{DownFrom, AlikeStays, NextListed, WalkStarts, WalkGoesOn, WalkEnds}
 use Rattle.column.proofs.Listing.{columns_fall}
 use Rattle.column.proofs.Laws.{ends_nested, sum_enclosed}
-use Rattle.column.proofs.Depths.{alike_true, true_alike}
-use Rattle.column.proofs.Descent.{first_is}
+use Rattle.column.proofs.Depths.{alike_true}
 
 -- ---- the columns to come
 pub from_next : (ps : List Part) (c : ℤ) (cs : List ℤ) → DownFrom ps (c ∷ cs) → DownFrom ps cs
-from_next ps c cs (above, e) = (above ++ (c ∷ []), e ∙ moved above)
-  where
-    moved : (above : List ℤ) → above ++ (c ∷ cs) ≡ (above ++ (c ∷ [])) ++ cs
-    moved [] = refl
-    moved (x ∷ above) = ap (λ (l : List ℤ). x ∷ l) (moved above)
+from_next ps c cs (above, e) = (above ++ (c ∷ []), e ∙ sym (append_assoc above (c ∷ []) cs))
 
 -- what stands above a column in a falling list lies above it
 above_higher : (x c : ℤ) (above cs : List ℤ) → AllByRecursion (λ d. d <ℤ x) (above ++ (c ∷ cs)) → c <ℤ x
@@ -34,17 +29,17 @@ above_higher x c (y ∷ above) cs a = above_higher x c above cs a.1
 
 -- so the first below a column of the list is the one that follows it
 first_after : (above : List ℤ) (c : ℤ) (cs : List ℤ) → Falling (above ++ (c ∷ cs)) → first_below c (above ++ (c ∷ cs)) ≡ first_column cs
-first_after [] c cs (a, f) = cond_both (lt_z c c) (Some c) (first_below c cs) (λ (r : Option ℤ). r ≡ first_column cs) (λ e. absurd (omega (arith, ints))) (λ e. first_is c cs a)
+first_after [] c cs (a, f) = grind (arith, ints)
 first_after (x ∷ above) c cs (a, f) =
     let l = above_higher x c above cs a in
     cond_both (lt_z x c) (Some x) (first_below c (above ++ (c ∷ cs))) (λ (r : Option ℤ). r ≡ first_column cs) (λ e. absurd (omega (arith, ints))) (λ e. first_after above c cs f)
 
 pub next_listed : NextListed
-next_listed ps c cs (above, e) = ap (first_below c) e ∙ first_after above c cs (subst Falling e (columns_fall ps))
+next_listed ps c cs (above, e) = grind (arith, ints, first_after, columns_fall)
 
 -- ---- once alike, always alike
 alike_both : (a b c : Answer) → Alike b a → Alike c a → Alike b c
-alike_both a b c k l = record { values = ≈ᴰ_trans b.value a.value c.value k.values (sym l.values); signs = k.signs ∙ sym l.signs; directions = k.directions ∙ sym l.directions }
+alike_both a b c k l = grind (arith, ints, ≈ᴰ_trans)
 
 pub alike_stays : AlikeStays
 alike_stays u W L m ps s c d ds f k =
@@ -61,7 +56,7 @@ alike_stays u W L m ps s c d ds f k =
 -- ---- column after column
 pub walk_starts : WalkStarts
 unfolding depth answer
-walk_starts u m ps = record { to_come = ([], refl); deeper = omega arith; same = refl }
+walk_starts u m ps = grind (arith, ints)
 
 pub walk_goes_on : WalkGoesOn
 walk_goes_on u m ps j c cs w n =
@@ -74,6 +69,4 @@ walk_goes_on u m ps j c cs w n =
     }
 
 pub walk_ends : WalkEnds
-walk_ends u m ps j c cs w k =
-    let e = true_alike (rounded u m (lower_end ps c cs)) (rounded u m (upper_end ps c cs)) k in
-    (w.deeper ∙ rw e, w.same ∙ rw e)
+walk_ends u m ps j c cs w k = grind (arith, ints)
