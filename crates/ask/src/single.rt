@@ -16,8 +16,9 @@ use batch::Batch;
 use grid::{Grid, Mode, Rounding};
 use sheet::sheet::SetSheet;
 
-// Takes what an ask takes, each by itself. The mode is a number that a caller hands in: one that no mode has is refused.
 // Sums the terms that the sheet marks, exactly, and rounds the sum once to the grid in the mode of this number. The limbs of the answer are left in `limbs`.
+// Sheet, batch, grid, mode and limbs each by itself: a struct of them would be taken apart one call further down. The mode is a number
+// that a caller hands in: one that no mode has is refused.
 pub fn ask<B: Batch, G: Grid>(
     sheet: &SetSheet,
     batch: &B,

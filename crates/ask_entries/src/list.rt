@@ -13,7 +13,7 @@ use std::io;
 // The number of no mode.
 const NO_MODE: u32 = 5;
 
-// An ask about the first batch, with one limb for its answer.
+// An ask about the first batch, with one limb for its answer. The mode is a number, since one ask of the list has a number that no mode has.
 fn ask_in(mode: u32, grid: FreeGrid) -> Call<FreeGrid> {
     Call::Ask(Asking {
         batch: 0,

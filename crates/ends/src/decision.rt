@@ -47,7 +47,7 @@ impl Decision {
     }
 }
 
-// Of the end without the bits of its magnitude up to the bit `at`.
+// What is decided where the bits of an end's magnitude up to the bit `at` are left out.
 pub fn decide(end: End, at: usize, mode: Mode) -> Decision
     requires { at < 4294967296 }
     ensures raise { result.raise ≡ raises (mode_of mode) end.entry.negative end.entry.partial (limbs_value end.entry.whole.now) at }

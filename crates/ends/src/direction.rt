@@ -5,7 +5,7 @@ ghost use Rattle.ends.specs.Directions.{direction_sign, direction_words};
 
 use std::fmt;
 
-// Each has its published number: the sign of the answer less the number.
+// Each has its published number: the sign of the answer minus what was rounded.
 #[derive(Clone, Copy, PartialEq, Eq, Debug)]
 pub enum Direction {
     Below = -1,

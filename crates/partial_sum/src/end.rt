@@ -12,8 +12,8 @@ pub struct WindowEnd {
     pub partial: bool,
 }
 
-// A bound on the units stands at each function that takes them: they are a number on its way, and no type keeps them.
 // So many units of a column, in units of the column above it. For the ends of a partial sum, whose rest is within 2^43.
+// A bound on the units stands at each function that takes them: they are a number that is passed on, and no type keeps it.
 pub fn one_column_up(units: i64) -> WindowEnd
     requires { unsigned_abs units ≤ 2 ^ 44 }
     ensures placed { Placed result.partial 32 units result.offset }

@@ -22,6 +22,7 @@ fn is_marked<S: MarkedSheet>(sheet: &S, place: u32) -> bool {
 // Prints the places that are not out.
 pub fn marks<S: MarkedSheet>(rt: &impl Print, sheet: &S) -> io::Result<()> {
     print!(rt; "  marks:")?;
+    // By number: a sheet is read place by place, and its interface has no iterator.
     for place in (0..PLACES).filter(|&place| is_marked(sheet, place)) {
         let mark = sheet.mark_at(place);
         print!(rt; " {place} {mark},")?;

@@ -33,8 +33,8 @@ fn repeat_ask<B: Batch, G: Grid>(
     result
 }
 
-// Width and mode are numbers that a caller hands in: those that are none are refused.
 // Opens the batch, and asks for the sum of all its terms on the free grid of this width, once and `repeats` times more. A refusal leaves the limbs as they were.
+// Width and mode are numbers that a caller hands in, and one that means nothing is refused. All go as the benchmark's C entry gets them, each by itself.
 pub fn ask_whole(
     terms: &[LimbRecord],
     pool: &[u32],

@@ -46,7 +46,7 @@ impl PartialSum {
     }
 
     // What the numbers at an end round to, with the limbs of the answer; nothing where that is not determined.
-    // That limbs are below 2^32 is said, since a caller's proof knows it of no array that is used no more.
+    // That limbs are below 2^32 is said, since a caller's proof does not know it of an array that the caller does not read again.
     fn round_at<G: Grid>(
         &self,
         end: WindowEnd,
@@ -73,7 +73,7 @@ impl PartialSum {
         round_settled(settled, rounding, answer)
     }
 
-    // That columns are in reach is asked here and below, and is no ghost field: `new` and `absorb` take any column.
+    // That columns are in reach is asked by each function that needs it, and is no ghost field: `new` and `absorb` take any column.
     // The exponent of the window's number is at most this: 32 bits for each total, and 21 more for the head, which is below 2^53 together
     // with what the totals below it come to.
     fn top_exponent(&self) -> i32
