@@ -1,5 +1,6 @@
 // The words of a line, taken one by one from the front.
-ghost use Rattle.std.specs.Prelude.{◌≡◌, ◌+◌, ◌≤◌, length, take, ◌==◌};
+ghost use Rattle.std.specs.Prelude.{◌≡◌, ℕ, ◌+◌, ◌≤◌, length, take, Ok, Err, MatchResult, ◌==◌};
+ghost use Rattle.vectors.specs.Words.{first_word, other_words, IsLimb};
 
 use std::num::ParseIntError;
 use std::str::FromStr;
@@ -24,6 +25,8 @@ impl<'a> Words<'a> {
 
     // The word up to the next space; an empty one at the end of the line.
     pub fn next(&mut self) -> &'a str
+        ensures word { result.now ≡ first_word self.old.rest.now }
+        ensures others { self.new.rest.now ≡ other_words self.old.rest.now }
         ensures front { result.now ≡ take (length result.now) self.old.rest.now }
         ensures goes_on { length self.new.rest.now + length result.now ≤ length self.old.rest.now }
     {
@@ -41,12 +44,18 @@ impl<'a> Words<'a> {
     }
 
     // The next word as a decimal number.
-    pub fn number<N: FromStr<Err = ParseIntError>>(&mut self) -> anyhow::Result<N> {
+    pub fn number<N: FromStr<Err = ParseIntError>>(&mut self) -> anyhow::Result<N>
+        ensures number { MatchResult result (λ n. N.from_str_gives (first_word self.old.rest.now) (Ok n)) (λ _. (e : _) × N.from_str_gives (first_word self.old.rest.now) (Err e)) }
+        ensures others { self.new.rest.now ≡ other_words self.old.rest.now }
+    {
         Ok(self.next().parse::<N>()?)
     }
 
     // The next word as a hexadecimal limb.
-    pub fn limb(&mut self) -> anyhow::Result<u32> {
+    pub fn limb(&mut self) -> anyhow::Result<u32>
+        ensures limb { MatchResult result (IsLimb (first_word self.old.rest.now)) (λ _. (n : ℕ) → IsLimb (first_word self.old.rest.now) n → ⊥) }
+        ensures others { self.new.rest.now ≡ other_words self.old.rest.now }
+    {
         Ok(u32::from_str_radix(self.next(), 16)?)
     }
 }

@@ -1,6 +1,6 @@
 -- The last word of a line is all of what is left.
-use Rattle.std.proofs.Common.{sym, arith, take_all}
+use Rattle.std.proofs.Common.{length, sym, ap, ◌∙◌, arith, take_all, rules}
 use Rattle.vectors.proofs.words.Words.next.Goals as goal
 
-pub returns-in-None : goal.returns-in-None
-returns-in-None c = record { front = sym (take_all _ _ (omega arith)); goes_on = omega arith }
+pub returns-in-None-clause-front : goal.returns-in-None-clause-front
+returns-in-None-clause-front c = sym (take_all _ _ (omega arith))
