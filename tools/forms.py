@@ -36,6 +36,17 @@ POINTS = {
     "7": "function pointers, closures as parameters, dyn",
 }
 
+# the points whose places are single lines
+LINES = {
+    "1c": r"\b(kind|mode|mark|name|number): u(8|32)\b|^\s*(pub )?const [A-Z0-9_]+: u32 = \d",
+    "1d": r"Option<\w*Fault>",
+    "1e": r"number\(\) [!=]=",
+    "3": r"\bfor \w+ in [^{]*\.\.|\bwhile\b|\bloop \{",
+    "4a": r"^\s*impl.*\b(From|TryFrom|Display|PartialEq|Eq|PartialOrd|Ord|Clone|Copy|Default|Error|Neg|Not)(<[^>]*>)? for",
+    "6": r"^\s*(pub )?\w+: \[[^;\]]+; \w+\],|= \[[^;\]]+; \w+\];",
+    "7": r"\bfn\(|\bdyn\b|\bFn(Mut|Once)?\(",
+}
+
 
 def files(rev):
     if rev:
@@ -134,20 +145,9 @@ def collect(rev):
         clean = without_comments(text)
         for number, line in enumerate(clean.split("\n"), 1):
             at = f"{name}:{number}: {line.strip()}"
-            if re.search(r"\b(kind|mode|mark|name|number): u(8|32)\b", line) or re.search(r"^\s*(pub )?const [A-Z0-9_]+: u32 = \d", line):
-                places["1c"].append(at)
-            if re.search(r"Option<\w*Fault>", line):
-                places["1d"].append(at)
-            if re.search(r"number\(\) [!=]=", line):
-                places["1e"].append(at)
-            if re.search(r"\bfor \w+ in [^{]*\.\.|\bwhile\b|\bloop \{", line):
-                places["3"].append(at)
-            if re.search(r"^\s*impl.*\b(From|TryFrom|Display|PartialEq|Eq|PartialOrd|Ord|Clone|Copy|Default|Error|Neg|Not)(<[^>]*>)? for", line):
-                places["4a"].append(at)
-            if re.search(r"^\s*(pub )?\w+: \[[^;\]]+; \w+\],|= \[[^;\]]+; \w+\];", line):
-                places["6"].append(at)
-            if re.search(r"\bfn\(|\bdyn\b|\bFn(Mut|Once)?\(", line):
-                places["7"].append(at)
+            for point, form in LINES.items():
+                if re.search(form, line):
+                    places[point].append(at)
         for kind, title, line, head, body in items(name, text):
             at = f"{name}:{line}: {kind} {title}"
             if kind in ("fn", "decl"):
