@@ -61,15 +61,16 @@ module _ (ts : List Term) (marks : ℕ → Mark) (i : ℕ) (h : i < length ts) w
         let n = counted_none (marks i) at_place (sym (ap kind_is_regular counts) ∙ e) in
         l ∙ sym (parts_more ∙ ap (λ (ps : List Part). parts_of marks (take i ts) ++ ps) n ∙ append-nil (parts_of marks (take i ts)))
 
-    pub listed_one : (cs ds : List CountedTerm) (s : Bool) → parts_listed ts cs ≡ parts_of marks (take i ts) → kind_is_regular q ≡ true → s ≡ below_0 q → ds ≡ cs ++ record { place = i; negative = s } ∷ []
+    pub listed_one : (cs ds : List CountedTerm) (c : CountedTerm) → parts_listed ts cs ≡ parts_of marks (take i ts) → kind_is_regular q ≡ true → c.place ≡ i → c.negative ≡ below_0 q → ds ≡ cs ++ c ∷ []
         → parts_listed ts ds ≡ parts_of marks (take (i + 1) ts)
     unfolding at_place
-    listed_one cs ds s l e b f =
+    listed_one cs ds c l e there b f =
+        let s = c.negative in
         let r = below_0 (counted_kind (marks i) (kind_of at_place)) in
         let is : s ≡ r = b ∙ ap below_0 counts in
         let n = counted_some (marks i) at_place (sym (ap kind_is_regular counts) ∙ e) in
-        let c : CountedTerm = record { place = i; negative = s } in
-        let p : listed_part ts c ≡ signed_part r at_place = get_or-map (signed_part s) ts i not_a_number (part s 0 (pos 0)) h ∙ ap (λ (x : Bool). signed_part x at_place) is in
+        let p : listed_part ts c ≡ signed_part r at_place =
+        ap (λ (j : ℕ). get_or (map (signed_part s) ts) j (part s 0 (pos 0))) there ∙ get_or-map (signed_part s) ts i not_a_number (part s 0 (pos 0)) h ∙ ap (λ (x : Bool). signed_part x at_place) is in
         ap (map (listed_part ts)) f ∙ map-append (listed_part ts) cs (c ∷ []) ∙ ap₂ (λ (ps : List Part) (x : Part). ps ++ x ∷ []) l p
         ∙ sym (parts_more ∙ ap (λ (ps : List Part). parts_of marks (take i ts) ++ ps) n)
 

@@ -3,10 +3,10 @@ use Rattle.std.proofs.Common.{◌≡◌, ◌⊎◌, List, [], ◌∷◌, map, �
 use borrow.Author.Differences.{ints}
 use Rattle.std.specs.Int.{int_max, int_min}
 use Rattle.std.specs.List.{AllByRecursion, filter_map, cons_option, fold, reduce}
-use Rattle.std.specs.Ordering.{int_cmp, max_by_ordering}
 use Rattle.std.proofs.lemmas.Int.{clamps}
 use Rattle.column.specs.Parts.{Part}
 use Rattle.column.specs.Columns.{Spans, Occupies, Occupied, column_of, columns, Falling, Listed}
+use Rattle.column.specs.Edges.{picked}
 use Rattle.column.specs.Walk.{first_column, first_below, Highest, higher, highest_spanned}
 use Rattle.column.proofs.Listing.{floor_is, columns_fall, columns_occupied, occupied_columns}
 use Rattle.column.proofs.Chain.{in_below}
@@ -48,14 +48,14 @@ pub first_is : (b : ℤ) (cs : List ℤ) → AllByRecursion (λ c. c <ℤ b) cs 
 first_is b cs h = grind (arith, ints)
 
 -- ---- the greatest of the columns that some terms have, part after part
--- the greater of two, as `max` picks it
-abbrev pub picked : ℤ → ℤ → ℤ
-picked p z = max_by_ordering (int_cmp p z) p z
-
 picked_is : (p z : ℤ) → int_max p z ≡ picked p z
 picked_is p z = grind (arith, ints)
 
-module _ {X : Type 0} (b : ℤ) (part_at : X → Part) (h : X → Option ℤ) (each : (x : X) → Highest b (Occupies (part_at x)) (h x)) where
+module _ {X : Type 0} (b : ℤ) (part_at : X → Part) (h : X → Option ℤ) where
+  -- each has its own
+  abbrev pub Each : List X → Type 0
+  Each xs = AllByRecursion (λ x. Highest b (Occupies (part_at x)) (h x)) xs
+
   -- the greatest of a list of columns, from one on
   abbrev from : ℤ → List X → Option ℤ
   from a xs = Some (fold picked a (filter_map h xs))
@@ -71,15 +71,15 @@ module _ {X : Type 0} (b : ℤ) (part_at : X → Part) (h : X → Option ℤ) (e
       let two : Highest b both (Some (picked a c)) = subst (λ (z : ℤ). Highest b both (Some z)) (picked_is a c) (highest_either b P (Occupies (part_at x)) (Some a) (Some c) m n) in
       grind (arith, ints, further both (picked a c) two)
 
-  greatest_from : (xs : List X) (P : ℤ → Type 0) (a : ℤ) → Highest b P (Some a) → Highest b (Or P xs) (from a xs)
-  greatest_from [] P a m = grind (arith, ints)
-  greatest_from (x ∷ xs) P a m = greatest_more P a x xs m (greatest_from xs) (h x) (each x)
+  greatest_from : (xs : List X) → Each xs → (P : ℤ → Type 0) (a : ℤ) → Highest b P (Some a) → Highest b (Or P xs) (from a xs)
+  greatest_from [] each P a m = grind (arith, ints)
+  greatest_from (x ∷ xs) (e, es) P a m = greatest_more P a x xs m (greatest_from xs es) (h x) e
 
-  greatest_first : (x : X) (xs : List X) → Highest b (Occupied (map part_at xs)) (reduce picked (filter_map h xs)) → (r : Option ℤ) → Highest b (Occupies (part_at x)) r
+  greatest_first : (x : X) (xs : List X) → Each xs → Highest b (Occupied (map part_at xs)) (reduce picked (filter_map h xs)) → (r : Option ℤ) → Highest b (Occupies (part_at x)) r
       → Highest b (Or (Occupies (part_at x)) xs) (reduce picked (cons_option r (filter_map h xs)))
-  greatest_first x xs rest None n = grind (arith, ints)
-  greatest_first x xs rest (Some c) n = greatest_from xs (Occupies (part_at x)) c n
+  greatest_first x xs each rest None n = grind (arith, ints)
+  greatest_first x xs each rest (Some c) n = greatest_from xs each (Occupies (part_at x)) c n
 
-  pub greatest_of_all : (xs : List X) → Highest b (Occupied (map part_at xs)) (reduce picked (filter_map h xs))
-  greatest_of_all [] = λ k o l. o
-  greatest_of_all (x ∷ xs) = greatest_first x xs (greatest_of_all xs) (h x) (each x)
+  pub greatest_of_all : (xs : List X) → Each xs → Highest b (Occupied (map part_at xs)) (reduce picked (filter_map h xs))
+  greatest_of_all [] each = λ k o l. o
+  greatest_of_all (x ∷ xs) (e, es) = greatest_first x xs es (greatest_of_all xs es) (h x) e

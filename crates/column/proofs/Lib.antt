@@ -13,5 +13,8 @@ pub mod Gathering
 pub mod Descent
 pub mod Walking
 pub mod Ranges
-pub mod SpannedColumns
-pub mod ListedDescent
+pub mod PartedTerms
+pub mod TermEnds
+pub mod Nearness
+pub mod Permuted
+pub mod NextColumn

@@ -7,4 +7,6 @@ pub mod Walk
 pub mod Claims
 pub mod Examples
 pub mod Listed
+pub mod Edges
+pub mod Zones
 pub mod CountedTerms

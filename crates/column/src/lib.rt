@@ -2,6 +2,7 @@
 #![tactic(auto)]
 
 mod counted;
+mod parting;
 mod term;
 mod theory;
 

@@ -22,7 +22,7 @@ use Rattle.partial_sum.proofs.Joining.{columns_reached, sums_absorbed}
 use Rattle.partial_sum.specs.declared.sum.PartialSum.{PartialSum}
 use Rattle.depth.specs.declared.descent.Descent.{Descent}
 use Rattle.depth.specs.Descending.{Begun, GoneOn, Stands}
-use Rattle.depth.proofs.Nearness.{Near}
+use Rattle.column.proofs.Nearness.{Near}
 use Rattle.depth.proofs.Settled.{EndsAlike, next_is, lower_is, upper_is}
 
 -- how many columns there can be from this one down

@@ -1,4 +1,3 @@
-mod Nearness
 mod Settled
 mod Descending
 mod Turns

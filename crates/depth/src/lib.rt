@@ -1,21 +1,24 @@
 // The exact sum of the counted terms, rounded once: columns from the top down, until the two ends round alike.
 #![tactic(auto)]
 
-ghost use Rattle.std.specs.Prelude.{◌≡◌, length};
+ghost use Rattle.std.specs.Prelude.{◌≡◌, ◌≤◌, length};
 ghost use Rattle.exact.specs.Limbs.{limbs_value};
 ghost use Rattle.grid.specs.Modes.{mode_of};
 ghost use Rattle.sheet.specs.Shown.{shown};
 ghost use Rattle.column.specs.PartsOf.{parts_of};
 ghost use Rattle.depth.specs.Rounded.{SumRounded};
 
-use crate::descent::Descent;
-use batch::Batch;
+use crate::descent::descend;
+use batch::{Batch, MOST_TERMS};
 use column::CountedTerms;
 use ends::RoundedEnd;
 use grid::{Grid, Rounding};
 use sheet::marks::Marks;
 
 mod descent;
+
+// A batch of no more terms is listed in a small list, which takes no time to clear.
+const FEW: usize = 32;
 
 // What a sum rounds to, and after how many columns that was settled.
 #[derive(Clone, Copy)]
@@ -34,9 +37,24 @@ pub fn round_sum<B: Batch, G: Grid>(
     requires { length answer.old ≡ 128 }
     ensures { SumRounded (G.Grid.spacing rounding.entry.grid.now) (mode_of rounding.entry.mode) (parts_of (shown marks.now) (B.Batch.terms batch.now)) result (limbs_value answer.new) }
 {
-    let terms = CountedTerms::new(batch, marks);
-    let first = terms.first_column()?;
-    let (total, reaching) = terms.column_work(first);
-    let mut descent = Descent::new(total, reaching, first);
-    Some(descent.finish(&terms, rounding, answer))
+    if batch.count() <= FEW {
+        round_listed::<B, G, FEW>(batch, marks, rounding, answer)
+    } else {
+        round_listed::<B, G, MOST_TERMS>(batch, marks, rounding, answer)
+    }
+}
+
+// The same, with room for so many terms.
+fn round_listed<B: Batch, G: Grid, const CAP: usize>(
+    batch: &B,
+    marks: &Marks,
+    rounding: Rounding<G>,
+    answer: &mut [u32],
+) -> Option<RoundedSum>
+    requires listed { length (B.Batch.terms batch.now) ≤ CAP }
+    requires room { length answer.old ≡ 128 }
+    ensures { SumRounded (G.Grid.spacing rounding.entry.grid.now) (mode_of rounding.entry.mode) (parts_of (shown marks.now) (B.Batch.terms batch.now)) result (limbs_value answer.new) }
+{
+    let mut terms: CountedTerms<B, CAP> = CountedTerms::new(batch, marks);
+    descend(&mut terms, rounding, answer)
 }

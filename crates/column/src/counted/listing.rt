@@ -1,33 +1,71 @@
 // The counted terms of a batch under the marks of a sheet.
-ghost use Rattle.std.specs.Prelude.{◌≡◌};
+ghost use Rattle.std.specs.Prelude.{◌≡◌, ◌<◌, ◌≤◌, length, unsigned_abs};
 ghost use Rattle.sheet.specs.Shown.{shown};
 ghost use Rattle.column.specs.PartsOf.{parts_of};
+ghost use Rattle.column.specs.Columns.{columns, column_of};
+ghost use Rattle.column.specs.Edges.{Spanning};
+ghost use Rattle.column.specs.Walk.{first_column, first_below};
 
 use crate::counted::CountedTerms;
+use crate::parting::Zones;
 use crate::term::CountedTerm;
 use arrayvec::ArrayVec;
 use batch::{Batch, Kind};
 use sheet::marks::Marks;
 use survey::counted_kind;
 
-impl<'b, B: Batch> CountedTerms<'b, B> {
-    ghost use Rattle.column.specs.CountedTerms.{listed_parts};
+// A column has 2^5 weights.
+const COLUMN_BITS: u32 = 5;
 
-    // Lists the counted terms, in one pass over the batch.
-    pub fn new(batch: &'b B, marks: &Marks) -> CountedTerms<'b, B>
-        ensures { listed_parts result ≡ parts_of (shown marks.now) (B.Batch.terms batch.now) }
+// The column that a weight lies in.
+fn column_of(weight: i64) -> i32
+    requires few { unsigned_abs weight ≤ 2000000000 }
+    ensures { result ≡ column_of weight }
+{
+    (weight >> COLUMN_BITS) as i32
+}
+
+// The term at a place of a batch, with the sign that it counts with.
+fn counted_term<B: Batch>(batch: &B, place: usize, negative: bool) -> CountedTerm
+    requires { place < 1024 }
+    ensures place { result.place ≡ place }
+    ensures sign { result.negative ≡ negative }
+    ensures spans { Spanning (B.Batch.terms batch.now) result }
+{
+    CountedTerm {
+        place: place as u16,
+        negative,
+        first: column_of(i64::from(batch.top(place)) - 1),
+        last: column_of(i64::from(batch.low(place))),
+    }
+}
+
+impl<'b, B: Batch, const CAP: usize> CountedTerms<'b, B, CAP> {
+    ghost use Rattle.column.specs.CountedTerms.{listed_parts, standing};
+
+    // Lists the counted terms, in one pass over the batch. They stand above all columns. Who asks has room for all terms of the batch.
+    pub fn new(batch: &'b B, marks: &Marks) -> CountedTerms<'b, B, CAP>
+        requires { length (B.Batch.terms batch.now) ≤ CAP }
+        ensures listed { listed_parts result ≡ parts_of (shown marks.now) (B.Batch.terms batch.now) }
+        ensures above { first_below (standing result) (columns (listed_parts result)) ≡ first_column (columns (listed_parts result)) }
     {
         let mut terms = ArrayVec::new();
         // By number: the interface of a batch, which each kind of batch implements, has no iterator.
         for place in 0..batch.count() {
             let kind = counted_kind(marks.at(place as u32), batch.kind(place));
             if kind.is_regular() {
-                terms.push(CountedTerm {
-                    place,
-                    negative: kind == Kind::Negative,
-                });
+                terms.push(counted_term(batch, place, kind == Kind::Negative));
             }
         }
-        CountedTerms { batch, terms }
+        CountedTerms {
+            batch,
+            terms,
+            column: i32::MAX,
+            zones: Zones {
+                ended: 0,
+                begun: 0,
+                next_first: i32::MAX - 1,
+            },
+        }
     }
 }

@@ -1,58 +1,56 @@
-// The way down the occupied columns: the first, and the next below a given one. No gap between columns is walked through.
-ghost use Rattle.std.specs.Prelude.{◌≡◌};
+// The way down the occupied columns. No gap between columns is walked through.
+ghost use Rattle.std.specs.Prelude.{◌≡◌, ◌<ℤ◌};
+ghost use Rattle.std.specs.List.{list_any, filter_map, reduce};
 ghost use Rattle.column.specs.Columns.{columns, Occupied};
-ghost use Rattle.column.specs.Listed.{highest_occupied};
-ghost use Rattle.column.specs.Walk.{first_column, first_below, Highest, highest_spanned};
+ghost use Rattle.column.specs.Edges.{occupies_next, highest_below, picked};
+ghost use Rattle.column.specs.Walk.{first_below, Highest};
 
 use crate::counted::CountedTerms;
+use crate::parting::go_down;
 use crate::term::CountedTerm;
 use batch::Batch;
 
-// A column has 2^5 weights.
-const COLUMN_BITS: u32 = 5;
-
-// The highest column below a limit among those that the weights from low up to top lie in.
-fn highest_spanned(low: i32, top: i32, below: i32) -> Option<i32>
-    ensures { result ≡ highest_spanned low top below }
+// Does any of the terms occupy the column right below this one?
+fn any_occupies_next(terms: &[CountedTerm], column: i32) -> bool
+    ensures { result ≡ list_any (occupies_next column) terms.now }
 {
-    let lowest = i64::from(low) >> COLUMN_BITS;
-    let highest = ((i64::from(top) - 1) >> COLUMN_BITS).min(i64::from(below) - 1);
-    if highest < lowest {
-        None
-    } else {
-        Some(highest as i32)
-    }
+    terms.iter().any(|term| term.occupies_next(column))
 }
 
-impl<'b, B: Batch> CountedTerms<'b, B> {
-    ghost use Rattle.column.specs.CountedTerms.{listed_parts};
+// The highest column below this one that any of the terms occupies.
+fn highest_below(terms: &[CountedTerm], column: i32) -> Option<i32>
+    ensures { result ≡ reduce picked (filter_map (highest_below column) terms.now) }
+{
+    terms
+        .iter()
+        .filter_map(|term| term.highest_below(column))
+        .max()
+}
 
-    // The first occupied column, the highest of all: no top weight is above 1,000,000,000, so that none is missed.
-    pub fn first_column(&self) -> Option<i32>
-        ensures { result ≡ first_column (columns (listed_parts self.now)) }
+impl<'b, B: Batch, const CAP: usize> CountedTerms<'b, B, CAP> {
+    ghost use Rattle.column.specs.CountedTerms.{listed_parts, standing, SameColumns};
+
+    // The next occupied column below the one at which the terms stand. Most often it is the very next one.
+    pub fn next_column(&self) -> Option<i32>
+        ensures next { result ≡ first_below (standing self.now) (columns (listed_parts self.now)) }
+        ensures highest { Highest (standing self.now) (Occupied (listed_parts self.now)) result }
     {
-        self.next_column(i32::MAX)
+        let left = &self.terms.as_slice()[self.zones.ended..];
+        let begun = &left[..self.zones.begun - self.zones.ended];
+        if any_occupies_next(begun, self.column) {
+            Some(self.column - 1)
+        } else {
+            highest_below(left, self.column)
+        }
     }
 
-    // The next occupied column below a given one.
-    pub fn next_column(&self, below: i32) -> Option<i32>
-        ensures next { result ≡ first_below below (columns (listed_parts self.now)) }
-        ensures highest { Highest below (Occupied (listed_parts self.now)) result }
+    // Goes down to a column. Those that end above it are passed from now on, and those that reach it have begun.
+    pub(super) fn go_down_to(&mut self, column: i32)
+        requires { column <ℤ standing self.old }
+        ensures at { standing self.new ≡ column }
+        ensures same { SameColumns (listed_parts self.old) (listed_parts self.new) }
     {
-        self.terms
-            .iter()
-            .filter_map(|term| self.highest_occupied(*term, below))
-            .max()
-    }
-
-    // The highest column below a limit that a counted term occupies.
-    fn highest_occupied(&self, term: CountedTerm, below: i32) -> Option<i32>
-        ensures { result ≡ highest_occupied (B.Batch.terms self.now.batch.now) below term }
-    {
-        highest_spanned(
-            self.batch.low(term.place),
-            self.batch.top(term.place),
-            below,
-        )
+        self.zones = go_down(self.terms.as_mut_slice(), self.zones, column);
+        self.column = column;
     }
 }

@@ -1,7 +1,0 @@
--- All columns lie below the largest number of 32 bits.
-use Rattle.std.proofs.Common.{◌∙◌}
-use Rattle.column.proofs.ListedDescent.{first_of_all}
-use Rattle.column.proofs.counted.CountedTerms.first_column.Goals as goal
-
-pub returns : goal.returns
-returns g c = c.next_column.ensures.next ∙ first_of_all (g.B.Batch.terms c.args.self.now.batch.now) (g.B.Batch.limited c.args.self.now.batch.now) c.args.self.now.terms.items
