@@ -1,5 +1,5 @@
 -- A descent stands at its first column, and after each column more as long as the ends do not round alike.
-use Rattle.std.proofs.Common.{◌≡◌, ℕ, ◌+◌, ◌<◌, ◌≤◌, true, List, [], ◌∷◌, ◌++◌, ℤ, pos, neg_ℤ, nat_abs, ◌≤ℤ◌, ◌<ℤ◌, is_some, Some, None, Option, sym, refl, ap, ◌∙◌, subst, inl, inr, arith}
+use Rattle.std.proofs.Common.{◌≡◌, ℕ, ◌+◌, ◌<◌, ◌≤◌, List, [], ◌∷◌, ◌++◌, ℤ, pos, neg_ℤ, nat_abs, ◌≤ℤ◌, ◌<ℤ◌, Some, None, Option, sym, refl, ap, ◌∙◌, subst, inl, inr, arith}
 use borrow.Author.Differences.{ints}
 use Rattle.exact.specs.Dyadic.{Dyadic}
 use Rattle.exact.specs.Integers.{gap}
@@ -19,7 +19,6 @@ use Rattle.partial_sum.specs.Ends.{lower_number, Reached}
 use Rattle.partial_sum.specs.Joints.{Holds}
 use Rattle.partial_sum.specs.Rounded.{Undecided, UndecidedBefore}
 use Rattle.partial_sum.proofs.Joining.{columns_reached, sums_absorbed}
-use Rattle.partial_sum.specs.declared.sum.PartialSum.{PartialSum}
 use Rattle.depth.specs.declared.descent.Descent.{Descent}
 use Rattle.depth.specs.Descending.{Begun, GoneOn, Stands}
 use Rattle.column.proofs.Nearness.{Near}

@@ -25,7 +25,7 @@ use Rattle.depth.specs.declared.descent.Descent.{Descent}
 use Rattle.depth.specs.Rounded.{RoundedTo}
 use Rattle.depth.specs.Descending.{Begun, GoneOn, Stands}
 use Rattle.depth.proofs.Settled.{decided_rounds}
-use Rattle.depth.proofs.Descending.{left, first_near, begun_stands, stands_near, depth_few, lowest_near, next_near, stands_reached, absorbs_next, gone_on_stands, fewer_left}
+use Rattle.depth.proofs.Descending.{left, first_near, begun_stands, depth_few, lowest_near, next_near, stands_reached, absorbs_next, gone_on_stands, fewer_left}
 
 -- a column and a total as they are passed, in 32 and in 64 bits
 abbrev pub column_passed : ℤ → ℤ

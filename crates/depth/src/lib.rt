@@ -1,7 +1,7 @@
 // The exact sum of the counted terms, rounded once: columns from the top down, until the two ends round alike.
 #![tactic(auto)]
 
-ghost use Rattle.std.specs.Prelude.{◌≡◌, ◌≤◌, length};
+ghost use Rattle.std.specs.Prelude.{◌≡◌, length};
 ghost use Rattle.exact.specs.Limbs.{limbs_value};
 ghost use Rattle.grid.specs.Modes.{mode_of};
 ghost use Rattle.sheet.specs.Shown.{shown};
@@ -38,23 +38,9 @@ pub fn round_sum<B: Batch, G: Grid>(
     ensures { SumRounded (G.Grid.spacing rounding.entry.grid.now) (mode_of rounding.entry.mode) (parts_of (shown marks.now) (B.Batch.terms batch.now)) result (limbs_value answer.new) }
 {
     if batch.count() <= FEW {
-        round_listed::<B, G, FEW>(batch, marks, rounding, answer)
-    } else {
-        round_listed::<B, G, MOST_TERMS>(batch, marks, rounding, answer)
+        let mut terms: CountedTerms<B, FEW> = CountedTerms::new(batch, marks);
+        return descend(&mut terms, rounding, answer);
     }
-}
-
-// The same, with room for so many terms.
-fn round_listed<B: Batch, G: Grid, const CAP: usize>(
-    batch: &B,
-    marks: &Marks,
-    rounding: Rounding<G>,
-    answer: &mut [u32],
-) -> Option<RoundedSum>
-    requires listed { length (B.Batch.terms batch.now) ≤ CAP }
-    requires room { length answer.old ≡ 128 }
-    ensures { SumRounded (G.Grid.spacing rounding.entry.grid.now) (mode_of rounding.entry.mode) (parts_of (shown marks.now) (B.Batch.terms batch.now)) result (limbs_value answer.new) }
-{
-    let mut terms: CountedTerms<B, CAP> = CountedTerms::new(batch, marks);
+    let mut terms: CountedTerms<B, MOST_TERMS> = CountedTerms::new(batch, marks);
     descend(&mut terms, rounding, answer)
 }

@@ -1,51 +1,64 @@
-use Rattle.std.proofs.Common.{rules, ◌≡◌, ◌≤◌, length, unsigned_abs, ℕ, ◌+◌, ◌-◌, ◌*◌, ◌<◌, ◌/◌, ◌%◌, Bool, true, false, nat_eq, nat_lt, List, [], ◌∷◌, ◌++◌, slice_index_or, slice_set, bit_and, bit_or, Fits, w8, w32, w64, Bor, MutBor, ℤ, pos, ◌+ℤ◌, ◌-ℤ◌, ◌*ℤ◌, ◌≤ℤ◌, ◌<ℤ◌, FitsSigned, to_z, of_z}
+-- Without a first column there is no part. One turn: the ends round alike, and that settles the sum; or there is a next column, and the descent stands there.
+use Rattle.std.proofs.Common.{◌≡◌, Some, sym, ◌∙◌, arith}
 use Rattle.exact.specs.Limbs.{limbs_value}
 use Rattle.grid.specs.Modes.{mode_of}
+use Rattle.column.specs.CountedTerms.{listed_parts}
 use Rattle.column.specs.Columns.{columns}
-use Rattle.column.specs.CountedTerms.{listed_parts, standing}
-use Rattle.column.specs.Walk.{first_column, first_below}
-use Rattle.partial_sum.specs.Limits.{most_total}
-use Rattle.partial_sum.specs.Holding.{Absorbs}
-use Rattle.depth.specs.Rounded.{SumRounded}
-use Rattle.depth.specs.Descending.{Begun, GoneOn}
+use Rattle.column.specs.Walk.{first_column}
+use Rattle.depth.proofs.Descending.{no_part}
+use Rattle.depth.proofs.Turns as turn
 use Rattle.depth.proofs.descent.descend.Goals as goal
 
--- src/descent.rt:65:17
 pub returns-in_err-first : goal.returns-in_err-first
-returns-in_err-first g c = ?
+returns-in_err-first g c = rw c.from_residual.ensures (no_part (listed_parts c.args.terms.now) c.args.terms.now.regular (c.in_err-first.ensures.next ∙ c.requires.above))
 
--- src/descent.rt:69:5
 pub loop-end-init : goal.loop-end-init
-loop-end-init g c = ?
+loop-end-init g c =
+    let cs = c.args.terms.now in
+    let u = g.G.Grid.spacing c.args.rounding.grid.now in
+    let m = mode_of c.args.rounding.mode in
+    let first : Some c.in_ok-first.first ≡ first_column (columns (listed_parts cs)) = c.in_ok-first.ensures.next ∙ c.requires.above in
+    let w = c.column_work-total.ensures in
+    record {
+      stands = turn.starts_off cs u m c.in_ok-first.first c.column_work-total.result.0 c.column_work-total.result.1 c.new-descent.result first w.small w.starts w.below c.new-descent.ensures;
+      same = w.same;
+      there = w.at ∙ sym c.new-descent.ensures.at;
+    }
 
--- src/descent.rt:71:23
 pub overflow_cast-below : goal.overflow_cast-below
-overflow_cast-below g c = ?
+overflow_cast-below g c = let few = turn.reaching_fits c.args.terms.now _ _ _ _ c.loop-end.invariant in omega (arith, few)
 
--- src/descent.rt:74:28
 pub round_ends-requires-clause-reached : goal.round_ends-requires-clause-reached
-round_ends-requires-clause-reached g c = ?
+round_ends-requires-clause-reached g c = turn.reached c.args.terms.now _ _ _ _ c.loop-end.invariant c.next_column-in-loop-end.result c.next_column-in-loop-end.ensures.next
 
--- src/descent.rt:74:28
 pub round_ends-requires-clause-reach : goal.round_ends-requires-clause-reach
-round_ends-requires-clause-reach g c = ?
+round_ends-requires-clause-reach g c = turn.lowest_in c.args.terms.now _ _ _ _ c.loop-end.invariant
 
--- src/descent.rt:75:13
 pub returns-in-Some : goal.returns-in-Some
-returns-in-Some g c = ?
+returns-in-Some g c =
+    let grid = c.args.rounding.grid.now in
+    turn.settles c.args.terms.now _ _ _ _ c.loop-end.invariant
+    c.next_column-in-loop-end.result c.next_column-in-loop-end.ensures.next (g.G.Grid.widest grid) (g.G.Grid.lawful grid)
+    c.in-Some.end (limbs_value c.round_ends.new.answer) c.in-Some.ensures
 
--- src/descent.rt:84:9
 pub go_on-requires-clause-absorbs : goal.go_on-requires-clause-absorbs
-go_on-requires-clause-absorbs g c = ?
+go_on-requires-clause-absorbs g c =
+    turn.absorbs c.args.terms.now _ _ _ _ c.loop-end.invariant
+    c.next_column-in-loop-end.result c.next_column-in-loop-end.ensures.next c.in_default.ensures c.in-Some-column.next c.in-Some-column.is
+    c.column_work-total-in-loop-end.result.0 c.column_work-total-in-loop-end.ensures.small
 
--- src/descent.rt:84:9
 pub go_on-requires-clause-few : goal.go_on-requires-clause-few
-go_on-requires-clause-few g c = ?
+go_on-requires-clause-few g c = turn.depth_in c.args.terms.now _ _ _ _ c.loop-end.invariant
 
--- src/descent.rt:69:5
 pub loop-end-smaller : goal.loop-end-smaller
-loop-end-smaller g c = ?
+loop-end-smaller g c =
+    turn.less_left c.args.terms.now _ _ _ _ c.loop-end.invariant
+    c.next_column-in-loop-end.result c.next_column-in-loop-end.ensures.next c.in_default.ensures c.in-Some-column.next c.in-Some-column.is
+    c.go_on.new.self c.go_on.ensures.at
 
--- src/descent.rt:69:5
 pub loop-end-preserved : goal.loop-end-preserved
-loop-end-preserved g c = ?
+loop-end-preserved g c =
+    let w = c.column_work-total-in-loop-end in
+    turn.goes_on c.args.terms.now _ _ _ _ c.loop-end.invariant
+    c.next_column-in-loop-end.result c.next_column-in-loop-end.ensures.next c.in_default.ensures c.in-Some-column.next c.in-Some-column.is
+    w.new.self w.result.0 w.result.1 c.go_on.new.self w.ensures.small w.ensures.total w.ensures.below w.ensures.same w.ensures.at c.go_on.ensures
