@@ -1,11 +1,11 @@
 // A term whose magnitude is one word: what a record gives, and what a list batch answers from it.
-ghost use Rattle.std.specs.Prelude.{◌≡◌, ◌≤◌, pos, ◌-ℤ◌, ◌*ℤ◌};
+ghost use Rattle.std.specs.Prelude.{◌≡◌, ℕ, ◌<◌, ◌≤◌, length, slice_index, pos, ◌-ℤ◌, ◌*ℤ◌};
 ghost use Rattle.std.specs.Float.Ieee.{size};
 ghost use Rattle.batch.specs.Term.{top_weight, low_weight, digit_at};
 ghost use Rattle.batch.specs.TermKinds.{kind_of};
 
 use batch::Kind;
-use limbs::bits_from;
+use limbs::{bits_down, bits_from};
 
 // The flags say whether the term is negative. The magnitude of a regular term is magnitude * 2 ^ weight.
 #[derive(Clone, Copy, PartialEq, Eq, Debug)]
@@ -81,6 +81,21 @@ impl WordTerm {
                 ..
             } => bits_from(&magnitude, column_start(weight, column)),
             _ => 0,
+        }
+    }
+
+    // The digits at a column and at those below it.
+    pub fn digits(&self, column: i32, digits: &mut [u32])
+        ensures many { length digits.new ≡ length digits.old }
+        ensures each { (j : ℕ) → j < length digits.old → slice_index digits.new j ≡ digit_at (column -ℤ pos j) (spelled self.now) }
+    {
+        match *self {
+            WordTerm::Regular {
+                magnitude,
+                weight,
+                ..
+            } => bits_down(&magnitude, column_start(weight, column), digits),
+            _ => digits.fill(0),
         }
     }
 }
