@@ -49,7 +49,7 @@ impl<'p> RegularRecord<'p> {
         ensures many { length digits.new ≡ length digits.old }
         ensures each { (j : ℕ) → j < length digits.old → slice_index digits.new j ≡ digit_at (column -ℤ pos j) (term_signed false self.now) }
     {
-        bits_down(&self.limbs, self.bit_of(column), digits);
+        bits_down(self.limbs, self.bit_of(column), digits);
     }
 
     // The bit with which a column begins, counted from the lowest of the limbs.

@@ -7,9 +7,8 @@ ghost use Rattle.limbs.specs.Bits.{bit_of, any_below, most_limbs};
 use crate::magnitude::{Magnitude, bits_of_pair};
 
 // The limb at a place, and 0 past the last.
-fn limb(limbs: &[u32], i: usize) -> u32
-    ensures is { result ≡ slice_index limbs.now i }
-    ensures digit { result ≡ limbs_value limbs.now / 2 ^ (32 * i) % 2 ^ 32 }
+pub fn limb(limbs: &[u32], i: usize) -> u32
+    ensures { result ≡ slice_index limbs.now i }
 {
     limbs.get(i).copied().unwrap_or(0)
 }
@@ -26,10 +25,6 @@ impl<'a> Magnitude for &'a [u32] {
 
     fn bits_at(&self, at: usize) -> u32 {
         limb_bits_at(self, at)
-    }
-
-    fn limb(&self, place: usize) -> u32 {
-        limb(self, place)
     }
 }
 

@@ -11,10 +11,6 @@ pub trait Magnitude {
     // The 32 bits from the bit `at` on.
     fn bits_at(&self, at: usize) -> u32
         ensures { result ≡ value self.now / 2 ^ at % 2 ^ 32 };
-
-    // The limb at a place, and 0 past the last.
-    fn limb(&self, place: usize) -> u32
-        ensures { result ≡ value self.now / 2 ^ (32 * place) % 2 ^ 32 };
 }
 
 impl Magnitude for u64 {
@@ -26,15 +22,6 @@ impl Magnitude for u64 {
             return 0;
         }
         ((n >> at) % LIMB) as u32
-    }
-
-    fn limb(&self, place: usize) -> u32 {
-        let n = *self;
-        match place {
-            0 => (n % LIMB) as u32,
-            1 => (n / LIMB) as u32,
-            _ => 0,
-        }
     }
 }
 

@@ -1,11 +1,15 @@
 // A term whose magnitude is one word: what a record gives, and what a list batch answers from it.
 ghost use Rattle.std.specs.Prelude.{◌≡◌, ℕ, ◌<◌, ◌≤◌, length, slice_index, pos, ◌-ℤ◌, ◌*ℤ◌};
 ghost use Rattle.std.specs.Float.Ieee.{size};
+ghost use Rattle.exact.specs.Limbs.{limbs_value};
 ghost use Rattle.batch.specs.Term.{top_weight, low_weight, digit_at};
 ghost use Rattle.batch.specs.TermKinds.{kind_of};
 
 use batch::Kind;
 use limbs::{bits_down, bits_from};
+
+// One more than the greatest limb.
+const LIMB: u64 = 0x1_0000_0000;
 
 // The flags say whether the term is negative. The magnitude of a regular term is magnitude * 2 ^ weight.
 #[derive(Clone, Copy, PartialEq, Eq, Debug)]
@@ -26,6 +30,13 @@ fn bit_length(n: u64) -> u32
     ensures within { result ≤ 64 }
 {
     64 - n.leading_zeros()
+}
+
+// Its limbs of 32 bits, the least significant first.
+fn limbs_of(n: u64) -> [u32; 2]
+    ensures { limbs_value result ≡ n }
+{
+    [(n % LIMB) as u32, (n / LIMB) as u32]
 }
 
 // How far a column begins above a weight.
@@ -94,7 +105,7 @@ impl WordTerm {
                 magnitude,
                 weight,
                 ..
-            } => bits_down(&magnitude, column_start(weight, column), digits),
+            } => bits_down(&limbs_of(magnitude), column_start(weight, column), digits),
             _ => digits.fill(0),
         }
     }

@@ -24,5 +24,5 @@ returns-else-any c =
     let k = c.args.at in
     let none : (j : ℕ) → j < k / 32 → j < length xs → get_or xs j 0 ≡ 0 = search (rules, chains) in
     last_limb c.limb.result k
-    ∙ ap (λ (y : ℕ). ltb 0 (y % 2 ^ (k % 32))) c.limb.ensures.is
+    ∙ ap (λ (y : ℕ). ltb 0 (y % 2 ^ (k % 32))) c.limb.ensures
     ∙ sym (any_in_last_limb xs k (λ i l. (c.type_inv.limbs i).fits) (zero_past xs (k / 32) none))

@@ -6,4 +6,4 @@ use Rattle.limbs.proofs.bits.limb_bits_at.Goals as goal
 pub returns : goal.returns
 returns c =
     let bits = bits_in_two_limbs c.args.limbs.now c.args.at (λ i l. (c.type_inv.limbs i).fits) in
-    rw (c.bits_of_pair.ensures, c.limb.ensures.is, c.limb-2.ensures.is) (sym bits)
+    rw (c.bits_of_pair.ensures, c.limb.ensures, c.limb-2.ensures) (sym bits)

@@ -9,6 +9,7 @@ use Rattle.list_batch.proofs.word_term.WordTerm.digits.Goals as goal
 pub returns-in-Regular-clause-each : goal.returns-in-Regular-clause-each
 returns-in-Regular-clause-each c j l =
     let k = c.args.column -ℤ pos j in
-    c.bits_down.ensures.each j l
+    let read = rw c.limbs_of.ensures at (c.bits_down.ensures.each j l) in
+    read
     ∙ ap (λ (x : ℕ). x % 4294967296) (units_moved c.in-Regular.magnitude c.in-Regular.weight (column_weight k) _ (omega (arith, ints, c.column_start.ensures)))
     ∙ ap (λ t. digit_at k (spelled t)) (sym c.in-Regular.is)
