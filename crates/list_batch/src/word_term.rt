@@ -6,10 +6,7 @@ ghost use Rattle.batch.specs.Term.{top_weight, low_weight, digit_at};
 ghost use Rattle.batch.specs.TermKinds.{kind_of};
 
 use batch::Kind;
-use limbs::{bits_down, bits_from};
-
-// One more than the greatest limb.
-const LIMB: u64 = 0x1_0000_0000;
+use limbs::{LIMB, bits_down, bits_from};
 
 // The flags say whether the term is negative. The magnitude of a regular term is magnitude * 2 ^ weight.
 #[derive(Clone, Copy, PartialEq, Eq, Debug)]
