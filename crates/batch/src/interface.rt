@@ -1,5 +1,5 @@
 // The interface of a batch: a list of terms, read term by term and column by column.
-ghost use Rattle.std.specs.Prelude.{◌≡◌, List, length};
+ghost use Rattle.std.specs.Prelude.{◌≡◌, ℕ, ◌<◌, List, length, pos, ◌-ℤ◌, slice_index};
 ghost use Rattle.batch.specs.Term.{Term, Batchable, regular_terms};
 ghost use Rattle.batch.specs.Lookup.{kind_of_term, top_of_term, low_of_term, digit_of_term};
 
@@ -28,6 +28,11 @@ pub trait Batch {
     // Its bits at the weights 32 * column to 32 * column + 31.
     fn digit(&self, i: usize, column: i32) -> u32
         ensures { result ≡ digit_of_term (terms self.now) i column };
+
+    // Its digits at a column and at those below it, one for each place of the slice.
+    fn digits(&self, i: usize, column: i32, digits: &mut [u32])
+        ensures many { length digits.new ≡ length digits.old }
+        ensures each { (j : ℕ) → j < length digits.old → slice_index digits.new j ≡ digit_of_term (terms self.now) i (column -ℤ pos j) };
 }
 
 // How many terms of a batch are regular.

@@ -66,6 +66,13 @@ impl<'r, 'p> Batch for LimbBatch<'r, 'p> {
         self.regular_record(i)
             .map_or(0, |record| record.digit(column))
     }
+
+    fn digits(&self, i: usize, column: i32, digits: &mut [u32]) {
+        match self.regular_record(i) {
+            Some(record) => record.digits(column, digits),
+            None => digits.fill(0),
+        }
+    }
 }
 
 impl<'r, 'p> LimbBatch<'r, 'p> {

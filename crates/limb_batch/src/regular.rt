@@ -1,11 +1,11 @@
 // A regular record without a fault, and its weights and digits.
-ghost use Rattle.std.specs.Prelude.{◌≡◌, ◌/◌, ◌%◌, ◌^◌, ◌≤◌, length, pos, neg_ℤ, ◌+ℤ◌, ◌-ℤ◌, ◌*ℤ◌, ◌≤ℤ◌};
+ghost use Rattle.std.specs.Prelude.{◌≡◌, ℕ, ◌/◌, ◌%◌, ◌^◌, ◌<◌, ◌≤◌, length, slice_index, pos, neg_ℤ, ◌+ℤ◌, ◌-ℤ◌, ◌*ℤ◌, ◌≤ℤ◌};
 ghost use Rattle.std.specs.Float.Ieee.{size};
 ghost use Rattle.exact.specs.Limbs.{limbs_value};
 ghost use Rattle.batch.specs.Term.{most_digits, farthest_top};
 ghost use Rattle.limb_batch.specs.Records.{limbs_for, spare_bits};
 
-use limbs::bits_from;
+use limbs::{bits_down, bits_from};
 
 // The bits of the limbs below the first `precision` of them are 0, and the topmost is 1.
 #[derive(Clone, Copy)]
@@ -42,6 +42,14 @@ impl<'p> RegularRecord<'p> {
         ensures { result ≡ digit_at column (term_signed false self.now) }
     {
         bits_from(&self.limbs, self.bit_of(column))
+    }
+
+    // The digits at a column and at those below it.
+    pub fn digits(&self, column: i32, digits: &mut [u32])
+        ensures many { length digits.new ≡ length digits.old }
+        ensures each { (j : ℕ) → j < length digits.old → slice_index digits.new j ≡ digit_at (column -ℤ pos j) (term_signed false self.now) }
+    {
+        bits_down(self.limbs, self.bit_of(column), digits);
     }
 
     // The bit with which a column begins, counted from the lowest of the limbs.

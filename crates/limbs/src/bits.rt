@@ -4,10 +4,10 @@ ghost use Rattle.std.specs.Float.Ieee.{size};
 ghost use Rattle.exact.specs.Limbs.{limbs_value};
 ghost use Rattle.limbs.specs.Bits.{bit_of, any_below, most_limbs};
 
-use crate::magnitude::{LIMB, Magnitude};
+use crate::magnitude::{Magnitude, bits_of_pair};
 
 // The limb at a place, and 0 past the last.
-fn limb(limbs: &[u32], i: usize) -> u32
+pub fn limb(limbs: &[u32], i: usize) -> u32
     ensures { result ≡ slice_index limbs.now i }
 {
     limbs.get(i).copied().unwrap_or(0)
@@ -17,10 +17,7 @@ fn limb(limbs: &[u32], i: usize) -> u32
 fn limb_bits_at(limbs: &[u32], at: usize) -> u32
     ensures { result ≡ limbs_value limbs.now / 2 ^ at % 2 ^ 32 }
 {
-    let low = limb(limbs, at / 32);
-    let high = limb(limbs, at / 32 + 1);
-    let pair = ((high as u64) << 32) + low as u64;
-    ((pair >> (at % 32)) % LIMB) as u32
+    bits_of_pair(limb(limbs, at / 32 + 1), limb(limbs, at / 32), at % 32)
 }
 
 impl<'a> Magnitude for &'a [u32] {

@@ -4,9 +4,11 @@
 mod bits;
 mod bounded;
 mod magnitude;
+mod run;
 mod top;
 
 pub use bits::{any_below, bit_at, bit_length};
 pub use bounded::BoundedLimbs;
-pub use magnitude::{Magnitude, bits_from};
+pub use magnitude::{LIMB, Magnitude, bits_from};
+pub use run::bits_down;
 pub use top::{write_power, write_rounded};

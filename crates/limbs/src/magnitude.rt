@@ -1,6 +1,6 @@
 // Numbers that are read 32 bits at a time, whatever they are kept in.
-ghost use Rattle.std.specs.Prelude.{◌≡◌, ℕ, ◌*◌, ◌/◌, ◌%◌, ◌^◌, pos};
-ghost use Rattle.exact.specs.Integers.{gap};
+ghost use Rattle.std.specs.Prelude.{◌≡◌, ℕ, ◌+◌, ◌*◌, ◌/◌, ◌%◌, ◌^◌, ◌<◌};
+ghost use Rattle.limbs.specs.Bits.{bits_at_weight};
 
 // One more than the greatest limb.
 pub const LIMB: u64 = 0x1_0000_0000;
@@ -25,6 +25,15 @@ impl Magnitude for u64 {
     }
 }
 
+// 32 bits of two limbs, from a bit of the lower one on.
+pub fn bits_of_pair(high: u32, low: u32, from: usize) -> u32
+    requires { from < 32 }
+    ensures { result ≡ (high * 2 ^ 32 + low) / 2 ^ from % 2 ^ 32 }
+{
+    let pair = ((high as u64) << 32) + low as u64;
+    ((pair >> from) % LIMB) as u32
+}
+
 // The 32 bits of the number times 2 ^ up, from the bit `down` on.
 pub fn moved_bits<M: Magnitude>(m: &M, up: usize, down: usize) -> u32
     ensures { result ≡ M.value m.now * 2 ^ up / 2 ^ down % 2 ^ 32 }
@@ -40,7 +49,7 @@ pub fn moved_bits<M: Magnitude>(m: &M, up: usize, down: usize) -> u32
 
 // The 32 bits from the bit `from` on, which may lie below the lowest: the number is moved up then.
 pub fn bits_from<M: Magnitude>(m: &M, from: i64) -> u32
-    ensures { result ≡ M.value m.now * 2 ^ gap (pos 0) from / 2 ^ gap from (pos 0) % 2 ^ 32 }
+    ensures { result ≡ bits_at_weight (M.value m.now) from }
 {
     if from >= 0 {
         moved_bits(m, 0, from as usize)

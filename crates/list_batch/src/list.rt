@@ -63,4 +63,11 @@ impl<'a, R: Record> Batch for ListBatch<'a, R> {
     fn digit(&self, i: usize, column: i32) -> u32 {
         self.term(i).map_or(0, |term| term.digit(column))
     }
+
+    fn digits(&self, i: usize, column: i32, digits: &mut [u32]) {
+        match self.term(i) {
+            Some(term) => term.digits(column, digits),
+            None => digits.fill(0),
+        }
+    }
 }

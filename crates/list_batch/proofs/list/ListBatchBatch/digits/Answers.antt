@@ -1,0 +1,18 @@
+-- The digits of the term that is found, and 0 where none is.
+use Rattle.std.proofs.Common.{◌≡◌, pos, ◌-ℤ◌, slice_index, Some, None, w32, rules}
+use Rattle.std.proofs.lemmas.Int.{to_z-of_z}
+use Rattle.batch.specs.Term.{digit_at}
+use Rattle.list_batch.proofs.Places.{answer_spelled}
+use Rattle.list_batch.proofs.list.ListBatchBatch.digits.Goals as goal
+
+pub returns-in-Some-clause-each : goal.returns-in-Some-clause-each
+returns-in-Some-clause-each g c j l =
+    let k = c.args.column -ℤ pos j in
+    let read = rw (to_z-of_z w32 c.args.column c.ranges.column) at (c.digits.ensures.each j l) in
+    answer_spelled (digit_at k) 0 _ c.args.i (Some c.in-Some.term) _ c.in-Some.ensures read
+
+pub returns-in-None-clause-each : goal.returns-in-None-clause-each
+returns-in-None-clause-each g c j l =
+    let k = c.args.column -ℤ pos j in
+    let none : slice_index c.fill.new.self j ≡ 0 = search rules in
+    answer_spelled (digit_at k) 0 _ c.args.i None _ c.in-None.ensures none
