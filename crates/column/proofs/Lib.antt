@@ -18,3 +18,4 @@ pub mod TermEnds
 pub mod Nearness
 pub mod Permuted
 pub mod NextColumn
+pub mod RunTotals

@@ -1,5 +1,5 @@
 -- The weights of a batch's terms, and the columns of those that are listed, are not far from 0; and no more than 1,024 terms reach below a column.
-use Rattle.std.proofs.Common.{◌≡◌, refl, ℕ, zero, suc, ◌≤◌, List, [], ◌∷◌, length, ℤ, pos, ◌-ℤ◌, neg_ℤ, ◌≤ℤ◌, ◌<ℤ◌, inl, inr, arith}
+use Rattle.std.proofs.Common.{◌≡◌, refl, ap, ap₂, ◌∙◌, ◌+ℤ◌, ℕ, zero, suc, ◌≤◌, List, [], ◌∷◌, length, ℤ, pos, ◌-ℤ◌, neg_ℤ, ◌≤ℤ◌, ◌<ℤ◌, inl, inr, arith}
 use lib.Signed.{lt_z}
 use Rattle.std.proofs.lemmas.List.{length-map}
 use borrow.Author.Differences.{ints}
@@ -8,7 +8,8 @@ use Rattle.batch.specs.Term.{Term, not_a_number, infinite, signed_zero, regular,
 use Rattle.batch.specs.Lookup.{low_of_term, top_of_term}
 use Rattle.column.specs.declared.term.CountedTerm.{CountedTerm}
 use Rattle.column.specs.Parts.{low, top}
-use Rattle.column.specs.Columns.{Occupied, columns, Listed}
+use Rattle.exact.specs.Integers.{signed}
+use Rattle.column.specs.Columns.{Occupied, columns, column_total, Listed}
 use Rattle.column.specs.Edges.{Spanning}
 use Rattle.column.specs.Listed.{listed_part, parts_listed}
 use Rattle.column.specs.Ends.{reaching_below}
@@ -16,7 +17,8 @@ use Rattle.column.specs.Walk.{first_column, first_below}
 use Rattle.column.proofs.Descent.{first_is}
 use Rattle.column.proofs.Listing.{floor_is, columns_occupied}
 use Rattle.column.proofs.Lookups.{listed_low, listed_top}
-use Rattle.column.proofs.SignedSums.{tally_le}
+use Rattle.column.proofs.SignedSums.{signed_nothing, tally_le}
+use Rattle.column.proofs.TermEnds.{digit_above}
 
 -- ---- the weights of a term
 -- the low weight is at most 4,096 below the top weight
@@ -75,6 +77,13 @@ module _ (ts : List Term) (b : Batchable ts) where
       all_listed : (cs : List ℤ) → ((k : ℤ) → Listed cs k → k <ℤ pos 2147483647) → AllByRecursion (λ k. k <ℤ pos 2147483647) cs
       all_listed [] f = tt
       all_listed (c ∷ cs) f = (f c (inl refl), all_listed cs (λ k i. f k (inr i)))
+
+  -- and none of them has a digit there
+  pub none_high : (xs : List CountedTerm) (k : ℤ) → pos 60000000 ≤ℤ k → column_total (parts_listed ts xs) k ≡ pos 0
+  none_high [] k h = refl
+  none_high (x ∷ xs) k h =
+      let w = weights_near x.place in
+      ap₂ ◌+ℤ◌ (ap (signed (listed_part ts x).negative) (digit_above (listed_part ts x) k (omega (arith, ints, listed_top ts x, w.top_upto))) ∙ signed_nothing (listed_part ts x).negative) (none_high xs k h)
 
 pub few_reach : (ts : List Term) (xs : List CountedTerm) (w : ℤ) → length xs ≤ 1024 → reaching_below (parts_listed ts xs) w ≤ 1024
 few_reach ts xs w few = omega (arith, tally_le (λ p. lt_z (low p) w) (parts_listed ts xs), length-map xs (listed_part ts))

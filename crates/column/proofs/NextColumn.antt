@@ -30,12 +30,12 @@ in_second : (k : ℤ) (ps qs : List Part) → Occupied qs k → Occupied (ps ++ 
 in_second k [] qs o = o
 in_second k (p ∷ ps) qs o = inr (in_second k ps qs o)
 
-all_taken : (P : CountedTerm → Type 0) (n : ℕ) (xs : List CountedTerm) → AllByRecursion P xs → AllByRecursion P (take n xs)
+pub all_taken : (P : CountedTerm → Type 0) (n : ℕ) (xs : List CountedTerm) → AllByRecursion P xs → AllByRecursion P (take n xs)
 all_taken P zero xs h = tt
 all_taken P (suc n) [] h = tt
 all_taken P (suc n) (x ∷ xs) (h, hs) = (h, all_taken P n xs hs)
 
-all_left : (P : CountedTerm → Type 0) (n : ℕ) (xs : List CountedTerm) → AllByRecursion P xs → AllByRecursion P (drop n xs)
+pub all_left : (P : CountedTerm → Type 0) (n : ℕ) (xs : List CountedTerm) → AllByRecursion P xs → AllByRecursion P (drop n xs)
 all_left P zero xs h = h
 all_left P (suc n) [] h = tt
 all_left P (suc n) (x ∷ xs) (h, hs) = all_left P n xs hs
@@ -49,11 +49,8 @@ all_within P zero xs l h = tt
 all_within P (suc e) [] l h = absurd (omega arith)
 all_within P (suc e) (x ∷ xs) l h = (h 0 x (omega arith) (omega arith), all_within P e xs (omega arith) (λ j d a b. h (suc j) d (omega arith) (omega arith)))
 
-module _ (ts : List Term) (batch : Batchable ts) (b : ℤ) where
-  split : (n : ℕ) (xs : List CountedTerm) → parts_listed ts (take n xs) ++ parts_listed ts (drop n xs) ≡ parts_listed ts xs
-  split n xs = sym (map-append (listed_part ts) (take n xs) (drop n xs)) ∙ ap (parts_listed ts) (take-append-drop n xs)
-
-  -- ---- terms with their ends, none of them 0
+-- ---- terms with their ends, none of them 0
+module _ (ts : List Term) where
   abbrev pub Sound : CountedTerm → Type 0
   Sound c = Spanning ts c × (0 < (listed_part ts c).significand)
 
@@ -64,8 +61,12 @@ module _ (ts : List Term) (batch : Batchable ts) (b : ℤ) where
       both [] s r = tt
       both (x ∷ xs) (s, ss) (r, rs) = ((s, r), both xs ss rs)
 
+module _ (ts : List Term) (batch : Batchable ts) (b : ℤ) where
+  split : (n : ℕ) (xs : List CountedTerm) → parts_listed ts (take n xs) ++ parts_listed ts (drop n xs) ≡ parts_listed ts xs
+  split n xs = sym (map-append (listed_part ts) (take n xs) (drop n xs)) ∙ ap (parts_listed ts) (take-append-drop n xs)
+
   -- ---- the column right below
-  any_next : (ys : List CountedTerm) → AllByRecursion Sound ys → list_any (occupies_next b) ys ≡ true → Occupied (parts_listed ts ys) (b -ℤ pos 1) × (neg_ℤ (pos 60000000) <ℤ b)
+  any_next : (ys : List CountedTerm) → AllByRecursion (Sound ts) ys → list_any (occupies_next b) ys ≡ true → Occupied (parts_listed ts ys) (b -ℤ pos 1) × (neg_ℤ (pos 60000000) <ℤ b)
   any_next [] s h = absurd (let z : ◌≡◌ {A = ℕ} 0 1 = ap (λ (t : Bool). cond t 1 0) h in omega arith)
   any_next (y ∷ ys) (s, ss) h = ⊎_elim
       (λ q.
@@ -83,33 +84,33 @@ module _ (ts : List Term) (batch : Batchable ts) (b : ℤ) where
       both_tests c q = grind (arith, ints, q)
 
   -- ---- the highest of the terms that are left
-  highest_left : (ys : List CountedTerm) → AllByRecursion Sound ys → Highest b (Occupied (parts_listed ts ys)) (reduce picked (filter_map (highest_below b) ys))
+  highest_left : (ys : List CountedTerm) → AllByRecursion (Sound ts) ys → Highest b (Occupied (parts_listed ts ys)) (reduce picked (filter_map (highest_below b) ys))
   highest_left ys s = greatest_of_all b (listed_part ts) (highest_below b) ys (each ys s)
     where
-      each : (ys : List CountedTerm) → AllByRecursion Sound ys → AllByRecursion (λ x. Highest b (Occupies (listed_part ts x)) (highest_below b x)) ys
+      each : (ys : List CountedTerm) → AllByRecursion (Sound ts) ys → AllByRecursion (λ x. Highest b (Occupies (listed_part ts x)) (highest_below b x)) ys
       each [] s = tt
       each (y ∷ ys) (s, ss) = (highest_is ts y s.0 s.1 b, each ys ss)
 
   -- those that end above the column occupy none below it
-  ended_none : (ys : List CountedTerm) → AllByRecursion Sound ys → AllByRecursion (λ c. b <ℤ c.last) ys → (k : ℤ) → k <ℤ b → Occupied (parts_listed ts ys) k → ⊥
+  ended_none : (ys : List CountedTerm) → AllByRecursion (Sound ts) ys → AllByRecursion (λ c. b <ℤ c.last) ys → (k : ℤ) → k <ℤ b → Occupied (parts_listed ts ys) k → ⊥
   ended_none [] s h k l o = o
   ended_none (y ∷ ys) (s, ss) (h, hs) k l (inl o) = none_upto ts y s.0 k (omega (arith, ints)) o
   ended_none (y ∷ ys) (s, ss) (h, hs) k l (inr o) = ended_none ys ss hs k l o
 
-  module _ (xs : List CountedTerm) (s : AllByRecursion Sound xs) (e : ℕ) where
+  module _ (xs : List CountedTerm) (s : AllByRecursion (Sound ts) xs) (e : ℕ) where
     pub found_next : (m : ℕ) → list_any (occupies_next b) (take m (drop e xs)) ≡ true → Highest b (Occupied (parts_listed ts xs)) (Some (b -ℤ pos 1)) × (neg_ℤ (pos 60000000) <ℤ b)
     found_next m h =
-        let n = any_next (take m (drop e xs)) (all_taken Sound m (drop e xs) (all_left Sound e xs s)) h in
+        let n = any_next (take m (drop e xs)) (all_taken (Sound ts) m (drop e xs) (all_left (Sound ts) e xs s)) h in
         let k = b -ℤ pos 1 in
         let left = subst (λ (ps : List Part). Occupied ps k) (split m (drop e xs)) (in_first k (parts_listed ts (take m (drop e xs))) (parts_listed ts (drop m (drop e xs))) n.0) in
         let whole = subst (λ (ps : List Part). Occupied ps k) (split e xs) (in_second k (parts_listed ts (take e xs)) (parts_listed ts (drop e xs)) left) in
         ((whole, omega (arith, ints), λ j o l. omega (arith, ints)), n.1)
 
     pub found_left : AllByRecursion (λ c. b <ℤ c.last) (take e xs) → Highest b (Occupied (parts_listed ts xs)) (reduce picked (filter_map (highest_below b) (drop e xs)))
-    found_left passed = whole (reduce picked (filter_map (highest_below b) (drop e xs))) (highest_left (drop e xs) (all_left Sound e xs s))
+    found_left passed = whole (reduce picked (filter_map (highest_below b) (drop e xs))) (highest_left (drop e xs) (all_left (Sound ts) e xs s))
       where
         apart : (k : ℤ) → k <ℤ b → Occupied (parts_listed ts xs) k → Occupied (parts_listed ts (drop e xs)) k
-        apart k l o = ⊎_elim (λ q. absurd (ended_none (take e xs) (all_taken Sound e xs s) passed k l q)) (λ q. q) (in_either k (parts_listed ts (take e xs)) (parts_listed ts (drop e xs)) (subst (λ (ps : List Part). Occupied ps k) (sym (split e xs)) o))
+        apart k l o = ⊎_elim (λ q. absurd (ended_none (take e xs) (all_taken (Sound ts) e xs s) passed k l q)) (λ q. q) (in_either k (parts_listed ts (take e xs)) (parts_listed ts (drop e xs)) (subst (λ (ps : List Part). Occupied ps k) (sym (split e xs)) o))
 
         whole : (r : Option ℤ) → Highest b (Occupied (parts_listed ts (drop e xs))) r → Highest b (Occupied (parts_listed ts xs)) r
         whole None h = λ k o l. h k (apart k l o) l

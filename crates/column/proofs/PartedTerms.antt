@@ -73,32 +73,32 @@ module _ (e : Edge) (k : ℤ) (xs ys : List CountedTerm) (from i at : ℕ) (h : 
           (cases_eq j i);
     }
 
--- ---- the zones at a column k below the one at which the terms stood
-module _ (xs ys : List CountedTerm) (z : Zones) (from k : ℤ) (w : Zoned xs z from) (lower : k <ℤ from) (permuted : IsPermutation xs ys) (outside : SameOutside xs ys z.ended z.begun) (at : ℕ) (after : z.ended ≤ at)
+-- ---- the zones for a run of columns from k down to b, below the column at which the terms stood
+module _ (xs ys : List CountedTerm) (z : Zones) (from last k b : ℤ) (w : Zoned xs z from last) (lower : k <ℤ from) (permuted : IsPermutation xs ys) (outside : SameOutside xs ys z.ended z.begun) (at : ℕ) (after : z.ended ≤ at)
     (before : at ≤ z.begun) (forward : AllWithin (From Last (k +ℤ pos 1)) ys z.ended at) where
   long : length ys ≡ length xs
   long = length_permutation xs ys permuted
 
   passed_more : AllWithin (λ c. k <ℤ c.last) ys 0 at
-  passed_more j d a b = ⊎_elim
-      (λ l. subst (λ (c : CountedTerm). k <ℤ c.last) (sym (outside j d (inl l))) (let h = w.passed j d a l in omega (arith, ints)))
-      (λ l. let h = forward j d l b in omega (arith, ints))
+  passed_more j d l u = ⊎_elim
+      (λ r. subst (λ (c : CountedTerm). k <ℤ c.last) (sym (outside j d (inl r))) (let h = w.passed j d l r in omega (arith, ints)))
+      (λ r. let h = forward j d r u in omega (arith, ints))
       (cases_lt j z.ended)
 
-  -- where none of those that wait reaches the column
-  pub zoned_ended : z.next_first <ℤ k → Zoned ys (record { ended = at; begun = z.begun; next_first = z.next_first }) k
+  -- where none of those that wait reaches the run
+  pub zoned_ended : z.next_first <ℤ b → Zoned ys (record { ended = at; begun = z.begun; next_first = z.next_first }) k b
   zoned_ended none = record {
     order = before;
     within = omega (arith, long, w.within);
     passed = passed_more;
-    waiting = λ j d a b.
-        subst (Below First k z.next_first) (sym (outside j d (inr a))) (let h = (w.waiting j d a (omega (arith, long))).1 in (omega (arith, ints), h));
+    waiting = λ j d l u.
+        subst (Below First b z.next_first) (sym (outside j d (inr l))) (let h = (w.waiting j d l (omega (arith, long))).1 in (omega (arith, ints), h));
   }
 
   -- where those that do are brought forward
-  pub zoned_begun : (zs : List CountedTerm) → IsPermutation ys zs → (n b : ℕ) (h : ℤ) → n ≡ length ys → SameOutside ys zs z.begun n → z.begun ≤ b → b ≤ n → AllWithin (Below First k h) zs b n
-      → Zoned zs (record { ended = at; begun = b; next_first = h }) k
-  zoned_begun zs again n b h count outer later upto behind =
+  pub zoned_begun : (zs : List CountedTerm) → IsPermutation ys zs → (n i : ℕ) (h : ℤ) → n ≡ length ys → SameOutside ys zs z.begun n → z.begun ≤ i → i ≤ n → AllWithin (Below First b h) zs i n
+      → Zoned zs (record { ended = at; begun = i; next_first = h }) k b
+  zoned_begun zs again n i h count outer later upto behind =
       let length_zs = length_permutation ys zs again in
       record {
         order = omega (arith, before);
@@ -106,3 +106,7 @@ module _ (xs ys : List CountedTerm) (z : Zones) (from k : ℤ) (w : Zoned xs z f
         passed = λ j d l u. subst (λ (c : CountedTerm). k <ℤ c.last) (sym (outer j d (inl (omega (arith, before))))) (passed_more j d l u);
         waiting = λ j d l u. behind j d l (omega (arith, length_zs));
       }
+
+-- ---- the zones at a column further down
+pub zoned_lower : (xs : List CountedTerm) (z : Zones) (k j b : ℤ) → j ≤ℤ k → Zoned xs z k b → Zoned xs z j b
+zoned_lower xs z k j b h w = record { order = w.order; within = w.within; passed = λ i d l u. let p = w.passed i d l u in omega (arith, ints); waiting = w.waiting }

@@ -7,6 +7,9 @@ use Rattle.exact.proofs.Integers.{signed_plus, signed_within}
 use Rattle.exact.proofs.Scaling.{scale_plus, scale_signed}
 use Rattle.column.specs.Parts.{Part, signed_sum, tally}
 
+pub signed_nothing : (s : Bool) → signed s 0 ≡ pos 0
+signed_nothing s = grind (arith, ints)
+
 pub sum_plus : (f g : Part → ℕ) (ps : List Part) → signed_sum (λ p. f p + g p) ps ≡ signed_sum f ps +ℤ signed_sum g ps
 sum_plus f g [] = refl
 sum_plus f g (p ∷ ps) = omega (arith, ints, signed_plus p.negative (f p) (g p), sum_plus f g ps)

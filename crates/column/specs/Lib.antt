@@ -9,4 +9,5 @@ pub mod Examples
 pub mod Listed
 pub mod Edges
 pub mod Zones
+pub mod Runs
 pub mod CountedTerms

@@ -1,10 +1,12 @@
 // The terms that count in a sum, the marked regular ones of a batch, listed once so that each column's work goes through those alone that reach it.
-ghost use Rattle.std.specs.Prelude.{◌≤◌, ◌≤ℤ◌, length, pos};
+ghost use Rattle.std.specs.Prelude.{◌<◌, ◌≤◌, ◌≤ℤ◌, ◌<ℤ◌, ◌+ℤ◌, length, pos};
 ghost use Rattle.column.specs.Edges.{SpansListed};
-ghost use Rattle.column.specs.Listed.{RegularListed, RegularListed-prop};
+ghost use Rattle.column.specs.Listed.{parts_listed, RegularListed, RegularListed-prop};
+ghost use Rattle.column.specs.Runs.{Totalled};
 ghost use Rattle.column.specs.Zones.{Zoned};
 
 use crate::parting::Zones;
+use crate::run::Run;
 use crate::term::CountedTerm;
 use arrayvec::ArrayVec;
 use batch::Batch;
@@ -13,16 +15,23 @@ mod listing;
 mod walk;
 mod work;
 
-// They stand at a column, in three zones.
+// They stand at a column. The run of columns down from it is added up already; their zones are those of the run.
 #[derive(Drop)]
 pub struct CountedTerms<'b, B: Batch, const CAP: usize> {
     batch: &'b B,
     terms: ArrayVec<CountedTerm, CAP>,
     column: i32,
     zones: Zones,
-    ghost in_range: { column ≤ℤ pos 2147483647 },
+    run: Run,
+    height: usize,
+    ghost within_run: { run.bottom ≤ℤ column },
+    ghost not_above: { column ≤ℤ run.top },
+    ghost short_run: { run.top <ℤ (run.bottom +ℤ pos 34) },
+    ghost some_columns: { 0 < height },
+    ghost few_columns: { height ≤ 34 },
     ghost fits: { length terms.items ≤ 1024 },
     ghost regular: { RegularListed (B.Batch.terms batch.now) terms.items } by { RegularListed-prop (B.Batch.terms batch.now) terms.items },
     ghost spans: { SpansListed (B.Batch.terms batch.now) terms.items },
-    ghost zoned: { Zoned terms.items zones column },
+    ghost zoned: { Zoned terms.items zones column run.bottom },
+    ghost totalled: { Totalled (parts_listed (B.Batch.terms batch.now) terms.items) run },
 }

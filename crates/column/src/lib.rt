@@ -3,6 +3,7 @@
 
 mod counted;
 mod parting;
+mod run;
 mod term;
 mod theory;
 

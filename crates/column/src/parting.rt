@@ -7,8 +7,8 @@ ghost use Rattle.column.specs.Zones.{Zoned};
 
 use crate::term::{CountedTerm, Edge};
 
-// A walk down the columns stands at a column: those before the place `ended` end above it, and those from `begun` on begin below it, the first of them
-// no higher than `next_first`.
+// A walk down the columns has a run of them before it: the terms before the place `ended` end above it, and those from `begun` on begin below it, the first
+// of them no higher than `next_first`.
 #[derive(Clone, Copy)]
 pub struct Zones {
     pub ended: usize,
@@ -57,19 +57,19 @@ pub fn bring_forward(
     parted
 }
 
-// Goes down to a column. The terms that begin below it are looked at only where one of them may reach it.
-pub fn go_down(terms: &mut [CountedTerm], zones: Zones, column: i32) -> Zones
-    requires down { (from : ℤ) × Zoned terms.old zones from × (column <ℤ from) }
-    requires below_all { column <ℤ pos 2147483647 }
+// Goes down to the run of columns from `top` to `bottom`. The terms that wait are looked at only where one of them may reach it.
+pub fn go_down(terms: &mut [CountedTerm], zones: Zones, top: i32, bottom: i32) -> Zones
+    requires down { (from last : ℤ) × Zoned terms.old zones from last × (top <ℤ from) }
+    requires below_all { top <ℤ pos 2147483647 }
     ensures permuted { IsPermutation terms.old terms.new }
-    ensures zoned { Zoned terms.new result column }
+    ensures zoned { Zoned terms.new result top bottom }
 {
-    let ended = bring_forward(terms, zones.ended, zones.begun, Edge::Last, column + 1).at;
-    if zones.next_first < column {
+    let ended = bring_forward(terms, zones.ended, zones.begun, Edge::Last, top + 1).at;
+    if zones.next_first < bottom {
         return Zones { ended, ..zones };
     }
     let count = terms.len();
-    let begun = bring_forward(terms, zones.begun, count, Edge::First, column);
+    let begun = bring_forward(terms, zones.begun, count, Edge::First, bottom);
     Zones {
         ended,
         begun: begun.at,

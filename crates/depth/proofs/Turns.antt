@@ -1,5 +1,5 @@
 -- One turn of the descent through the columns of listed terms, with each number as the code passes it on.
-use Rattle.std.proofs.Common.{◌≡◌, ℕ, ◌^◌, ◌<◌, ◌≤◌, ℤ, nat_abs, ◌<ℤ◌, List, Some, None, Option, refl, sym, ap, ap₂, ◌∙◌, subst, arith, w32, w64, to_z, of_z}
+use Rattle.std.proofs.Common.{◌≡◌, ℕ, ◌^◌, ◌<◌, ◌≤◌, ℤ, nat_abs, List, Some, None, Option, refl, sym, ap, ap₂, ◌∙◌, subst, arith, w32, w64, to_z, of_z}
 use borrow.Author.Differences.{ints}
 use Rattle.grid.specs.Spacing.{Lawful}
 use Rattle.grid.specs.Rounding.{Mode}
@@ -104,14 +104,11 @@ module _ {B : Type 0} {CAP : ℕ} {G : Ghosts B} (cs : CountedTerms B CAP G) (u 
 
       -- the ends do not round alike, and d is the next column
       module _ (undecided : Undecided u m s.sum s.reaching below) (d : ℤ) (is : below ≡ Some d) where
-        passed : column_passed d ≡ d
+        pub passed : column_passed d ≡ d
         passed = near_passed d (next_near u m parts cs.regular near s st s.column below highest d is)
 
         next_is : below ≡ Some (column_passed d)
         next_is = is ∙ ap Some (sym passed)
-
-        pub lower : column_passed d <ℤ standing ds
-        lower = let h = (subst (Highest s.column (Occupied parts)) next_is highest).1 in omega (arith, ints, turn.there, h)
 
         pub absorbs : (t : ℤ) → nat_abs t < 2 ^ 42 → Absorbs s.sum (total_passed t) (column_passed d)
         absorbs t small =

@@ -37,10 +37,12 @@ pub fn round_sum<B: Batch, G: Grid>(
     requires { length answer.old ≡ 128 }
     ensures { SumRounded (G.Grid.spacing rounding.entry.grid.now) (mode_of rounding.entry.mode) (parts_of (shown marks.now) (B.Batch.terms batch.now)) result (limbs_value answer.new) }
 {
+    // As many columns as the answer's digits lie in, one that they may reach into, and one for the rest: so many settle most sums. Only speed hangs on it.
+    let height = rounding.grid.width() as usize / 32 + 3;
     if batch.count() <= FEW {
-        let mut terms: CountedTerms<B, FEW> = CountedTerms::new(batch, marks);
+        let mut terms: CountedTerms<B, FEW> = CountedTerms::new(batch, marks, height);
         return descend(&mut terms, rounding, answer);
     }
-    let mut terms: CountedTerms<B, MOST_TERMS> = CountedTerms::new(batch, marks);
+    let mut terms: CountedTerms<B, MOST_TERMS> = CountedTerms::new(batch, marks, height);
     descend(&mut terms, rounding, answer)
 }

@@ -8,6 +8,7 @@ ghost use Rattle.column.specs.Walk.{first_column, first_below};
 
 use crate::counted::CountedTerms;
 use crate::parting::Zones;
+use crate::run::{MOST_COLUMNS, Run};
 use crate::term::CountedTerm;
 use arrayvec::ArrayVec;
 use batch::{Batch, Kind};
@@ -44,8 +45,9 @@ impl<'b, B: Batch, const CAP: usize> CountedTerms<'b, B, CAP> {
     ghost use Rattle.column.specs.CountedTerms.{listed_parts, standing};
 
     // Lists the counted terms, in one pass over the batch. They stand above all columns. Who asks has room for all terms of the batch.
-    pub fn new(batch: &'b B, marks: &Marks) -> CountedTerms<'b, B, CAP>
-        requires { length (B.Batch.terms batch.now) ≤ CAP }
+    // Columns are added up in runs of this height, which changes no result.
+    pub fn new(batch: &'b B, marks: &Marks, height: usize) -> CountedTerms<'b, B, CAP>
+        requires room { length (B.Batch.terms batch.now) ≤ CAP }
         ensures listed { listed_parts result ≡ parts_of (shown marks.now) (B.Batch.terms batch.now) }
         ensures above { first_below (standing result) (columns (listed_parts result)) ≡ first_column (columns (listed_parts result)) }
     {
@@ -66,6 +68,12 @@ impl<'b, B: Batch, const CAP: usize> CountedTerms<'b, B, CAP> {
                 begun: 0,
                 next_first: i32::MAX - 1,
             },
+            run: Run {
+                top: i32::MAX,
+                bottom: i32::MAX,
+                totals: [0; MOST_COLUMNS],
+            },
+            height: height.clamp(1, MOST_COLUMNS),
         }
     }
 }

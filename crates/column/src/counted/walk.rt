@@ -6,7 +6,6 @@ ghost use Rattle.column.specs.Edges.{occupies_next, highest_below, picked};
 ghost use Rattle.column.specs.Walk.{first_below, Highest};
 
 use crate::counted::CountedTerms;
-use crate::parting::go_down;
 use crate::term::CountedTerm;
 use batch::Batch;
 
@@ -28,7 +27,7 @@ fn highest_below(terms: &[CountedTerm], column: i32) -> Option<i32>
 }
 
 impl<'b, B: Batch, const CAP: usize> CountedTerms<'b, B, CAP> {
-    ghost use Rattle.column.specs.CountedTerms.{listed_parts, standing, SameColumns};
+    ghost use Rattle.column.specs.CountedTerms.{listed_parts, standing};
 
     // The next occupied column below the one at which the terms stand. Most often it is the very next one.
     pub fn next_column(&self) -> Option<i32>
@@ -42,15 +41,5 @@ impl<'b, B: Batch, const CAP: usize> CountedTerms<'b, B, CAP> {
         } else {
             highest_below(left, self.column)
         }
-    }
-
-    // Goes down to a column. Those that end above it are passed from now on, and those that reach it have begun.
-    pub(super) fn go_down_to(&mut self, column: i32)
-        requires { column <ℤ standing self.old }
-        ensures at { standing self.new ≡ column }
-        ensures same { SameColumns (listed_parts self.old) (listed_parts self.new) }
-    {
-        self.zones = go_down(self.terms.as_mut_slice(), self.zones, column);
-        self.column = column;
     }
 }

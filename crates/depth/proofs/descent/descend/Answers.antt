@@ -1,10 +1,10 @@
 -- Without a first column there is no part. One turn: the ends round alike, and that settles the sum; or there is a next column, and the descent stands there.
-use Rattle.std.proofs.Common.{◌≡◌, Some, sym, ◌∙◌, arith}
+use Rattle.std.proofs.Common.{rules, ◌≡◌, Some, sym, subst, ◌∙◌, ℤ, arith}
 use Rattle.exact.specs.Limbs.{limbs_value}
 use Rattle.grid.specs.Modes.{mode_of}
-use Rattle.column.specs.CountedTerms.{listed_parts}
-use Rattle.column.specs.Columns.{columns}
-use Rattle.column.specs.Walk.{first_column}
+use Rattle.column.specs.CountedTerms.{listed_parts, standing}
+use Rattle.column.specs.Columns.{columns, Occupied}
+use Rattle.column.specs.Walk.{first_column, Highest}
 use Rattle.depth.proofs.Descending.{no_part}
 use Rattle.depth.proofs.Turns as turn
 use Rattle.depth.proofs.descent.descend.Goals as goal
@@ -40,6 +40,13 @@ returns-in-Some g c =
     turn.settles c.args.terms.now _ _ _ _ c.loop-end.invariant
     c.next_column-in-loop-end.result c.next_column-in-loop-end.ensures.next (g.G.Grid.widest grid) (g.G.Grid.lawful grid)
     c.in-Some.end (limbs_value c.round_ends.new.answer) c.in-Some.ensures
+
+pub column_work-total-requires-in-loop-end : goal.column_work-total-requires-in-loop-end
+column_work-total-requires-in-loop-end g c =
+    let ds = c.loop-end.terms in
+    let passed = turn.passed c.args.terms.now _ _ _ _ c.loop-end.invariant c.next_column-in-loop-end.result c.next_column-in-loop-end.ensures.next c.in_default.ensures c.in-Some-column.next c.in-Some-column.is in
+    let highest = subst (Highest (standing ds) (Occupied (listed_parts ds))) c.in-Some-column.is c.next_column-in-loop-end.ensures.highest in
+    (search rules, subst (λ (k : ℤ). Highest (standing ds) (Occupied (listed_parts ds)) (Some k)) (sym passed) highest)
 
 pub go_on-requires-clause-absorbs : goal.go_on-requires-clause-absorbs
 go_on-requires-clause-absorbs g c =

@@ -1,5 +1,5 @@
 -- One place more, counted or not; at the end the list stands for all parts, none of them 0, and all wait.
-use Rattle.std.proofs.Common.{◌≡◌, ◌<◌, length, sym, refl, ap, ap₂, ◌∙◌, subst, arith}
+use Rattle.std.proofs.Common.{◌≡◌, pos, ◌<◌, length, sym, refl, ap, ap₂, ◌∙◌, subst, arith}
 use borrow.Author.Differences.{ints}
 use Rattle.std.proofs.lemmas.List.{take_all}
 use Rattle.std.proofs.lemmas.List.Elements.{All-push}
@@ -11,9 +11,11 @@ use Rattle.sheet.specs.Shown.{shown}
 use Rattle.survey.specs.Kinds.{counted_kind}
 use Rattle.column.specs.Parts.{Regular}
 use Rattle.column.specs.PartsOf.{parts_of}
+use Rattle.exact.specs.Integers.{gap}
 use Rattle.column.specs.Edges.{Spanning}
 use Rattle.column.proofs.Counting.{below_0, listed_one, listed_none, parts_regular}
-use Rattle.column.proofs.Nearness.{first_near, first_of_all}
+use Rattle.column.proofs.Nearness.{first_near, first_of_all, none_high}
+use Rattle.column.proofs.RunTotals.{zeros}
 use Rattle.column.proofs.counted.CountedTerms.new.Goals as goal
 use Rattle.column.proofs.counted.CountedTerms.new.Goals.{then-is_regular, else-is_regular}
 
@@ -61,7 +63,11 @@ invariant_of-result g c =
     let xs = c.loop-place.terms.items in
     let all = c.loop-place.invariant.stands ∙ ap (parts_of marks) (take_all c.loop-place.place ts (omega (arith, c.loop-place-test.false, c.count-place-end.ensures))) in
     record {
-      in_range = omega (arith, ints);
+      within_run = omega (arith, ints);
+      not_above = omega (arith, ints);
+      short_run = omega (arith, ints);
+      some_columns = omega (arith, c.clamp.ensures);
+      few_columns = omega (arith, c.clamp.ensures);
       fits = omega (arith, c.loop-place.invariant.few, c.loop-place.auto.place-end, c.count-place-end.ensures, limited.few);
       regular = subst Regular (sym all) (parts_regular marks 0 ts limited.each_limited);
       spans = c.loop-place.invariant.spans;
@@ -71,6 +77,7 @@ invariant_of-result g c =
         passed = λ j d l u. absurd (omega arith);
         waiting = λ j d l u. let near = first_near ts limited _ (c.loop-place.invariant.spans j d u) in (omega (arith, ints, near), omega (arith, ints, near));
       };
+      totalled = λ k from upto. zeros 34 (gap (pos 2147483647) k) ∙ sym (none_high ts limited xs k (omega (arith, ints, from)));
     }
 
 pub returns-clause-above : goal.returns-clause-above

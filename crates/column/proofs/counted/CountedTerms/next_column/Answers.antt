@@ -23,7 +23,7 @@ right_below g c =
     let m = x.zones.begun - x.zones.ended in
     let left = sliced_from x.zones.ended c.as_slice.result.now x.terms.items c.as_slice.ensures.value in
     let some = ap₂ (λ (b : ℤ) (ys : List CountedTerm). list_any (occupies_next b) (take m ys)) (sym (to_z-of_z w32 x.column fits)) (sym left) in
-    found_next ts limited x.column x.terms.items (sound_listed ts limited x.column x.terms.items x.spans x.regular) x.zones.ended m (some ∙ sym c.any_occupies_next.ensures ∙ c.if-any_occupies_next.true)
+    found_next ts limited x.column x.terms.items (sound_listed ts x.terms.items x.spans x.regular) x.zones.ended m (some ∙ sym c.any_occupies_next.ensures ∙ c.if-any_occupies_next.true)
 
 -- the code's number for it
 as_kept : (g : Over) (c : goal.After-result-1 g) → c.args.self.now.column -ℤ pos 1 ≡ to_z w32 (of_z w32 (to_z w32 (of_z w32 c.args.self.now.column) -ℤ pos 1))
@@ -43,7 +43,7 @@ others g c =
     let left = sliced_from e c.as_slice.result.now x.terms.items c.as_slice.ensures.value in
     let found = ap₂ (λ (b : ℤ) (ys : List CountedTerm). reduce picked (filter_map (highest_below b) ys)) (sym (to_z-of_z w32 x.column fits)) (sym left) in
     subst (Highest x.column (Occupied (listed_parts x))) (found ∙ sym c.highest_below.ensures)
-    (found_left ts limited x.column x.terms.items (sound_listed ts limited x.column x.terms.items x.spans x.regular) e (all_within (λ y. x.column <ℤ y.last) e x.terms.items (omega (arith, x.zoned.order, x.zoned.within)) x.zoned.passed))
+    (found_left ts limited x.column x.terms.items (sound_listed ts x.terms.items x.spans x.regular) e (all_within (λ y. x.column <ℤ y.last) e x.terms.items (omega (arith, x.zoned.order, x.zoned.within)) x.zoned.passed))
 
 pub overflow_sub-result : goal.overflow_sub-result
 overflow_sub-result g c =
