@@ -1,7 +1,7 @@
 // The exact sum of the counted terms, rounded once: columns from the top down, until the two ends round alike.
 #![tactic(auto)]
 
-ghost use Rattle.std.specs.Prelude.{◌≡◌, length};
+ghost use Rattle.std.specs.Prelude.{◌≡◌, ◌≤◌, length};
 ghost use Rattle.exact.specs.Limbs.{limbs_value};
 ghost use Rattle.grid.specs.Modes.{mode_of};
 ghost use Rattle.sheet.specs.Shown.{shown};
@@ -37,12 +37,47 @@ pub fn round_sum<B: Batch, G: Grid>(
     requires { length answer.old ≡ 128 }
     ensures { SumRounded (G.Grid.spacing rounding.entry.grid.now) (mode_of rounding.entry.mode) (parts_of (shown marks.now) (B.Batch.terms batch.now)) result (limbs_value answer.new) }
 {
-    // As many columns as the answer's digits lie in, one that they may reach into, and one for the rest: so many settle most sums. Only speed hangs on it.
-    let height = rounding.grid.width() as usize / 32 + 3;
     if batch.count() <= FEW {
-        let mut terms: CountedTerms<B, FEW> = CountedTerms::new(batch, marks, height);
-        return descend(&mut terms, rounding, answer);
+        round_few(batch, marks, rounding, answer)
+    } else {
+        round_many(batch, marks, rounding, answer)
     }
+}
+
+// As many columns as so many digits lie in, one that they may reach into, and one for the rest: these settle most sums. Only speed hangs on it.
+fn run_height(width: u32) -> usize {
+    width as usize / 32 + 3
+}
+
+// With a small list.
+#[inline(never)]
+fn round_few<B: Batch, G: Grid>(
+    batch: &B,
+    marks: &Marks,
+    rounding: Rounding<G>,
+    answer: &mut [u32],
+) -> Option<RoundedSum>
+    requires few { length (B.Batch.terms batch.now) ≤ 32 }
+    requires room { length answer.old ≡ 128 }
+    ensures { SumRounded (G.Grid.spacing rounding.entry.grid.now) (mode_of rounding.entry.mode) (parts_of (shown marks.now) (B.Batch.terms batch.now)) result (limbs_value answer.new) }
+{
+    let height = run_height(rounding.grid.width());
+    let mut terms: CountedTerms<B, FEW> = CountedTerms::new(batch, marks, height);
+    descend(&mut terms, rounding, answer)
+}
+
+// With a list that has room for every batch. Apart from the other, whose callers then need not clear it.
+#[inline(never)]
+fn round_many<B: Batch, G: Grid>(
+    batch: &B,
+    marks: &Marks,
+    rounding: Rounding<G>,
+    answer: &mut [u32],
+) -> Option<RoundedSum>
+    requires { length answer.old ≡ 128 }
+    ensures { SumRounded (G.Grid.spacing rounding.entry.grid.now) (mode_of rounding.entry.mode) (parts_of (shown marks.now) (B.Batch.terms batch.now)) result (limbs_value answer.new) }
+{
+    let height = run_height(rounding.grid.width());
     let mut terms: CountedTerms<B, MOST_TERMS> = CountedTerms::new(batch, marks, height);
     descend(&mut terms, rounding, answer)
 }
