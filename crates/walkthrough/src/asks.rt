@@ -121,13 +121,13 @@ fn mark_first(rt: &impl Print, sheet: &mut OpenSheet) -> io::Result<()> {
 
 // Pi to 96 digits, less 2^-2000; then with 5 * 2^38 too, after the sheet is reopened.
 fn limbs(rt: &impl Print) -> io::Result<()> {
-    println!(rt; "entry: pi - 2^-2000, from limbs\n  lay")?;
+    println!(rt; "first entry: pi - 2^-2000, from limbs")?;
     let records = [
         LimbRecord::new(Kind::Positive, 2, 96, 0),
         LimbRecord::new(Kind::Positive, 41, 3, 3),
         LimbRecord::new(Kind::Positive, -1999, 1, 4),
     ];
-    let mut sheet = OpenSheet::new();
+    let mut sheet = lay(rt)?;
     mark_first(rt, &mut sheet)?;
     let set_sheet = set(rt, sheet)?;
     all_of(rt, &set_sheet, LimbBatch::open(&records, &POOL))?;
@@ -146,7 +146,7 @@ fn laid_anew(rt: &impl Print) -> io::Result<SetSheet> {
 }
 
 fn pairs(rt: &impl Print) -> io::Result<()> {
-    println!(rt; "entry: pi, from a pair of floats")?;
+    println!(rt; "second entry: pi, from a pair of floats")?;
     let pair = Pair {
         head: 3.141592653589793,
         tail: 1.2246467991473532e-16,
@@ -157,7 +157,7 @@ fn pairs(rt: &impl Print) -> io::Result<()> {
 }
 
 fn scaled(rt: &impl Print) -> io::Result<()> {
-    println!(rt; "entry: 5 * 2^38 + 2^-5, from scaled integers")?;
+    println!(rt; "third entry: 5 * 2^38 + 2^-5, from scaled integers")?;
     let records = [Scaled::new(5, 38), Scaled::new(1, -5)];
     let sheet = laid_anew(rt)?;
     all_of(rt, &sheet, ListBatch::open(&records))

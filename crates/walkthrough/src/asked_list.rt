@@ -78,8 +78,8 @@ fn run_on(rt: &impl Print, grid: FreeGrid) -> io::Result<()> {
     run_calls(rt, &calls)
 }
 
-pub fn run_listed(rt: &impl Print) -> io::Result<()> {
-    println!(rt; "an entry as a list of calls: 3 - 2^-2000, two bits")?;
+pub fn walk(rt: &impl Print) -> io::Result<()> {
+    println!(rt; "fourth entry, as a list of calls: 3 - 2^-2000, two bits")?;
     match FreeGrid::new(2) {
         Ok(grid) => run_on(rt, grid),
         Err(_) => println!(rt; "  no such grid"),
