@@ -7,9 +7,9 @@ mod asks;
 mod batches;
 mod columns;
 mod grids;
+mod lines;
 mod refusals;
 mod sheet_list;
-mod show;
 
 use std::io;
 
