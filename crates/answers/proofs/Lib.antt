@@ -7,4 +7,5 @@ pub mod Asked
 pub mod Right
 pub mod Enclosing
 pub mod Traces
+pub mod Sheets
 pub mod Examples

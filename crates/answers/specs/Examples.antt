@@ -51,21 +51,26 @@ minus_term m q = regular true m q
 abbrev pub binary64 : ℤ → ℤ
 binary64 = floored 53 (neg_ℤ (pos 1074))
 
--- nothing, in each mode
+-- nothing; -0 alone; an infinity in, and the same turned: in each mode
 abbrev pub nothing : Mode → Entry
 nothing m = entry all_in [] (free 1) m (special PositiveZero (pos 0) 0)
+
+abbrev pub minus_zero : Mode → Entry
+minus_zero m = entry all_in (signed_zero true ∷ []) (free 1) m (special NegativeZero (pos 0) 0)
+
+abbrev pub opposite_infinities : Mode → Entry
+opposite_infinities m = entry (In ∷ Turned ∷ []) (infinite false ∷ infinite false ∷ []) (free 1) m (special NotANumber (pos 0) 0)
 
 abbrev pub entries : List Entry
 entries =
     nothing nearest ∷ nothing downward ∷ nothing upward ∷ nothing toward_zero ∷ nothing away_from_zero
-    -- zeros
-    ∷ entry all_in (signed_zero true ∷ []) (free 1) nearest (special NegativeZero (pos 0) 0)
+    ∷ minus_zero nearest ∷ minus_zero downward ∷ minus_zero upward ∷ minus_zero toward_zero ∷ minus_zero away_from_zero
+    ∷ opposite_infinities nearest ∷ opposite_infinities downward ∷ opposite_infinities upward ∷ opposite_infinities toward_zero ∷ opposite_infinities away_from_zero
+    -- zeros of both signs
     ∷ entry all_in (signed_zero false ∷ signed_zero true ∷ []) (free 1) downward (special NegativeZero (pos 0) 0)
     -- 1 - 1
     ∷ entry all_in (plus_term 1 (pos 0) ∷ minus_term 1 (pos 0) ∷ []) (free 1) downward (special NegativeZero (pos 0) 1)
     ∷ entry all_in (plus_term 1 (pos 0) ∷ minus_term 1 (pos 0) ∷ []) (free 1) nearest (special PositiveZero (pos 0) 1)
-    -- an infinity in, and the same turned
-    ∷ entry (In ∷ Turned ∷ []) (infinite false ∷ infinite false ∷ []) (free 1) nearest (special NotANumber (pos 0) 0)
     -- 5 gives 4, and 7 gives 8, of two digits; -3 gives -4, of one
     ∷ entry all_in (plus_term 5 (pos 0) ∷ []) (free 2) nearest (short Positive (pos 3) 2 one_half (neg_ℤ (pos 1)) 1)
     ∷ entry all_in (plus_term 7 (pos 0) ∷ []) (free 2) nearest (short Positive (pos 4) 2 one_half (pos 1) 1)

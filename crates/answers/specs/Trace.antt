@@ -1,7 +1,7 @@
 -- The law over whole histories: a trace has each call since the laying of a sheet with what it got, refused calls and calls out of turn among them.
 use Rattle.std.specs.Prelude.{◌≡◌, ℕ, true, false, cond, List, [], ◌∷◌, ◌++◌, map, Some, None, Option}
 use Rattle.sheet.specs.Numbers.{Refusal, refused_by}
-use Rattle.sheet.specs.Model.{Call, marking, undoing, setting, reopening, asking, History, refusal, model, mark_after}
+use Rattle.sheet.specs.Model.{Call, marking, undoing, setting, reopening, asking, History, refusal, model, refusal_after, mark_after}
 use Rattle.history.specs.Turns.{fits, open_after, fitting}
 use Rattle.sheet.specs.Reached.{Reached, ReachedSet}
 use Rattle.sheet.specs.declared.mark.Mark.{Mark}
@@ -99,3 +99,16 @@ TraceStarts = LawfulTrace []
 -- and a lawful one with one call more, which got what the model says, is lawful again
 abbrev pub TraceGoesOn : Type 0
 TraceGoesOn = (h : List Event) (c : Call Question) (r : Reply) → LawfulTrace h → ProperCall c → r ≡ reply_after (history_of h) c → LawfulTrace (h ++ event c r ∷ [])
+
+-- A lawful trace goes on so with the calls of an open and of a set sheet themselves, whose contracts say which sheet the calls then reach, and what each is told.
+pub record SheetsGoOn (h : List Event) : Type 0 where
+  pub marked : (s t : OpenSheet) (p k : ℕ) → TracedOpen h s → Reached (fitting (history_of h) ++ marking p k ∷ []) t
+      → TracedOpen (h ++ event (marking p k) (reply_of (refusal_after (fitting (history_of h)) (marking p k))) ∷ []) t
+  pub undone : (s t : OpenSheet) → TracedOpen h s → Reached (fitting (history_of h) ++ undoing ∷ []) t
+      → TracedOpen (h ++ event undoing (reply_of (refusal_after (fitting (history_of h)) undoing)) ∷ []) t
+  pub set : (s : OpenSheet) (t : SetSheet) → TracedOpen h s → ReachedSet (fitting (history_of h) ++ setting ∷ []) t → TracedSet (h ++ event setting done ∷ []) t
+  pub reopened : (s : SetSheet) (t : OpenSheet) → TracedSet h s → Reached (fitting (history_of h) ++ reopening ∷ []) t → TracedOpen (h ++ event reopening done ∷ []) t
+
+-- and it starts with a new sheet
+abbrev pub SheetsTraced : Type 0
+SheetsTraced = ((s : OpenSheet) → Reached [] s → TracedOpen [] s) × ((h : List Event) → SheetsGoOn h)

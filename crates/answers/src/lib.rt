@@ -3,7 +3,7 @@
 
 ghost use Rattle.answers.specs.Examples.{EntriesHold};
 ghost use Rattle.answers.specs.Laws.{AnswersRight, AnswersEnclose};
-ghost use Rattle.answers.specs.Trace.{TraceStarts, TraceGoesOn};
+ghost use Rattle.answers.specs.Trace.{TraceStarts, TraceGoesOn, SheetsTraced};
 
 // Every answer lies where it should, has the depth that it should, and two answers enclose the sum; worked entries come out as written.
 pub fn answers_stand()
@@ -12,8 +12,9 @@ pub fn answers_stand()
     ensures entries { EntriesHold }
 {}
 
-// The law over histories holds from the laying of a sheet on, and goes on with each call.
+// The law over histories holds from the laying of a sheet on, and goes on with each call; so it does with those that open and set sheets offer.
 pub fn traces_stand()
     ensures starts { TraceStarts }
     ensures goes_on { TraceGoesOn }
+    ensures sheets { SheetsTraced }
 {}

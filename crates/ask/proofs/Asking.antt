@@ -1,8 +1,7 @@
 -- What follows for an ask from what it is told: the laws of its answer, and its place in a trace.
-use Rattle.std.proofs.Common.{◌≡◌, ℕ, Bool, true, List, [], ◌∷◌, ◌++◌, ℤ, IsErrAnd, IfOk, Ok, Err, Result, sym, ap, ◌∙◌, subst}
+use Rattle.std.proofs.Common.{◌≡◌, ℕ, Bool, true, List, [], ◌∷◌, ◌++◌, ℤ, IfOk, Ok, Err, Result, sym, ap, ◌∙◌, subst}
 use mathlib.Core.Path.{fun_ext}
 use mathlib.Core.List.{map-append}
-use Rattle.std.proofs.lemmas.Result.{err_from_is_err_and}
 use Rattle.std.proofs.lemmas.List.Sums.{fold_push}
 use Rattle.std.proofs.lemmas.Bool.{cond-true}
 use Rattle.batch.specs.Term.{Term}
@@ -15,10 +14,10 @@ use Rattle.sheet.specs.declared.marks.Marks.{Marks}
 use Rattle.sheet.specs.declared.sheet.SetSheet.{SetSheet}
 use Rattle.history.proofs.Turning.{open_after_push, fitting_push}
 use Rattle.answers.specs.Published.{Published}
-use Rattle.answers.specs.Asked.{Question, question, Reply, refused, answered, asked}
+use Rattle.answers.specs.Asked.{Question, question, Reply, answered, asked}
 use Rattle.answers.specs.Laws.{Proper, AnswerLaw, Twins, Enclosing}
 use Rattle.answers.specs.Trace.{Event, event, without_question, history_of, reply_after, TracedSet}
-use Rattle.ask.specs.Told.{published, told, fault_refusal}
+use Rattle.ask.specs.Told.{published, told}
 use Rattle.ask.specs.declared.answer.Answer.{Answer}
 use Rattle.ask.specs.declared.fault.AskFault.{AskFault}
 use Rattle.answers.proofs.Right.{answers_right}

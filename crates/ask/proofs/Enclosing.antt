@@ -1,5 +1,5 @@
 -- What follows for two asks at once, one downward and one upward, from what they get.
-use Rattle.std.proofs.Common.{◌≡◌, ℕ, ◌⊎◌, List, [], ◌∷◌, ◌++◌, ℤ, IsErrAnd, IfOk, Ok, Err, Result, sym, refl, subst, append_assoc}
+use Rattle.std.proofs.Common.{◌≡◌, ℕ, ◌⊎◌, List, [], ◌∷◌, ◌++◌, ℤ, IsErrAnd, IfOk, Ok, Err, Result, sym, refl, subst, append_assoc, inl, inr}
 use Rattle.grid.specs.Spacing.{Lawful}
 use Rattle.batch.specs.Term.{Term, Batchable}
 use Rattle.sheet.specs.Model.{asking}
@@ -7,11 +7,11 @@ use Rattle.sheet.specs.Shown.{shown}
 use Rattle.sheet.specs.declared.mark.Mark.{Mark}
 use Rattle.sheet.specs.declared.sheet.SetSheet.{SetSheet}
 use Rattle.answers.specs.Published.{Published}
-use Rattle.answers.specs.Asked.{Question, question, refused, answered, asked}
+use Rattle.answers.specs.Asked.{Question, question, Reply, refused, answered, asked}
 use Rattle.answers.specs.Laws.{Proper, AnswerLaw, Twins, Enclosing}
 use Rattle.answers.specs.Trace.{Event, event, TracedSet}
 use Rattle.ask.specs.Told.{published, fault_refusal}
-use Rattle.ask.specs.Both.{BothAsked}
+use Rattle.ask.specs.Both.{BothAsked, BothTraced}
 use Rattle.ask.specs.declared.answer.Answer.{Answer}
 use Rattle.ask.specs.declared.fault.AskFault.{AskFault}
 use Rattle.answers.proofs.Right.{answers_right}
@@ -52,12 +52,15 @@ module _ (ts : List Term) (u : ℤ → ℤ) (w j k : ℕ) (batchable : Batchable
     both_enclose (Ok p) low high (d, e) = answers_enclose marks down up (published p.0 low) (published p.1 high) up_proper twins d e
     both_enclose (Err f) low high by = tt
 
-  pub both_reached : (s : SetSheet) (r : Result (Answer × Answer) AskFault) (low high : List ℕ) → BothAsked (shown s.marks) down up r low high
-      → IfOk r (λ p. (h : List Event) → TracedSet h s
-      → TracedSet (h ++ event (asking down) (answered (published p.0 low)) ∷ event (asking up) (answered (published p.1 high)) ∷ []) s)
-  both_reached s (Ok p) low high (d, e) = λ h traced.
-      let a = answered (published p.0 low) in
-      let b = answered (published p.1 high) in
+  -- both asks made, one after the other
+  two_more : (s : SetSheet) (h : List Event) (a b : Reply) → TracedSet h s → asked (shown s.marks) down ≡ a → asked (shown s.marks) up ≡ b
+      → TracedSet (h ++ event (asking down) a ∷ event (asking up) b ∷ []) s
+  two_more s h a b traced d e =
       subst (λ (l : List Event). TracedSet l s) (append_assoc h (event (asking down) a ∷ []) (event (asking up) b ∷ []))
       (ask_reached (h ++ event (asking down) a ∷ []) s (ask_reached h s traced down a down_proper (sym d)) up b up_proper (sym e))
-  both_reached s (Err f) low high by = tt
+
+  pub both_reached : (s : SetSheet) (r : Result (Answer × Answer) AskFault) (low high : List ℕ) → BothAsked (shown s.marks) down up r low high
+      → (h : List Event) → TracedSet h s → BothTraced h s down up r low high
+  both_reached s (Ok p) low high (d, e) h traced = two_more s h _ _ traced d e
+  both_reached s (Err f) low high (inl d) h traced = inl (ask_reached h s traced down _ down_proper (sym d))
+  both_reached s (Err f) low high (inr (a, d, e)) h traced = inr (a, two_more s h _ _ traced d e)

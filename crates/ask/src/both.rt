@@ -1,12 +1,11 @@
 // The two asks that enclose a sum.
-ghost use Rattle.std.specs.Prelude.{◌≡◌, true, List, [], ◌∷◌, ◌++◌, length, is_err, IfOk};
-ghost use Rattle.sheet.specs.Model.{asking};
+ghost use Rattle.std.specs.Prelude.{◌≡◌, true, List, length, is_err, IfOk};
 ghost use Rattle.sheet.specs.Shown.{shown};
-ghost use Rattle.answers.specs.Asked.{question, answered};
+ghost use Rattle.answers.specs.Asked.{question};
 ghost use Rattle.answers.specs.Laws.{AnswerLaw, Enclosing};
-ghost use Rattle.answers.specs.Trace.{Event, event, TracedSet};
+ghost use Rattle.answers.specs.Trace.{Event, TracedSet};
 ghost use Rattle.ask.specs.Told.{published};
-ghost use Rattle.ask.specs.Both.{BothAsked};
+ghost use Rattle.ask.specs.Both.{BothAsked, BothTraced};
 
 use crate::answer::Answer;
 use crate::checking::check;
@@ -28,7 +27,7 @@ pub fn ask_both<B: Batch, G: Grid>(
     ensures refused { is_err result ≡ true → (low.new ≡ low.old) × (high.new ≡ high.old) }
     ensures right { IfOk result (λ p. AnswerLaw (shown sheet.now.marks) (question (B.Batch.terms batch.now) (G.Grid.spacing grid.now) (G.Grid.widest grid.now) 1 (length low.old)) (published p.0 low.new) × AnswerLaw (shown sheet.now.marks) (question (B.Batch.terms batch.now) (G.Grid.spacing grid.now) (G.Grid.widest grid.now) 2 (length high.old)) (published p.1 high.new)) }
     ensures encloses { IfOk result (λ p. Enclosing (shown sheet.now.marks) (question (B.Batch.terms batch.now) (G.Grid.spacing grid.now) (G.Grid.widest grid.now) 1 (length low.old)) (published p.0 low.new) (published p.1 high.new)) }
-    ensures reached { IfOk result (λ p. (h : List Event) → TracedSet h sheet.now → TracedSet (h ++ event (asking (question (B.Batch.terms batch.now) (G.Grid.spacing grid.now) (G.Grid.widest grid.now) 1 (length low.old))) (answered (published p.0 low.new)) ∷ event (asking (question (B.Batch.terms batch.now) (G.Grid.spacing grid.now) (G.Grid.widest grid.now) 2 (length high.old))) (answered (published p.1 high.new)) ∷ []) sheet.now) }
+    ensures reached { (h : List Event) → TracedSet h sheet.now → BothTraced h sheet.now (question (B.Batch.terms batch.now) (G.Grid.spacing grid.now) (G.Grid.widest grid.now) 1 (length low.old)) (question (B.Batch.terms batch.now) (G.Grid.spacing grid.now) (G.Grid.widest grid.now) 2 (length high.old)) result low.new high.new }
 {
     let marks = sheet.marks();
     let (terms, width) = (batch.count(), grid.width());

@@ -9,7 +9,7 @@ use Rattle.ask.specs.Told.{published, fault_refusal as ask_refusal}
 use Rattle.ask_history.specs.declared.call.Asking.{Asking}
 use Rattle.ask_history.specs.declared.call.Call.{Call}
 use Rattle.ask_history.specs.declared.call.Call.TheVariants.{Sheet, Ask}
-use Rattle.ask_history.specs.declared.outcome.AnsweredAsk.{AnsweredAsk}
+use Rattle.ask_history.specs.declared.answered.AnsweredAsk.{AnsweredAsk}
 use Rattle.ask_history.specs.declared.outcome.CallFault.{CallFault}
 use Rattle.ask_history.specs.declared.outcome.CallFault.TheVariants.{Call as CallRefused, Ask as AskRefused}
 

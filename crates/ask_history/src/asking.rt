@@ -6,9 +6,10 @@ ghost use Rattle.history.specs.declared.any_sheet.Sheet.TheVariants.{Set};
 ghost use Rattle.ask_history.specs.Data.{question_of};
 ghost use Rattle.ask_history.specs.Law.{CallLaw};
 
+use crate::answered::AnsweredAsk;
 use crate::call::Asking;
 use crate::no_terms::NoTerms;
-use crate::outcome::{AnsweredAsk, Outcome};
+use crate::outcome::Outcome;
 use ask::ask;
 use batch::Batch;
 use grid::Grid;

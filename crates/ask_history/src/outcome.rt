@@ -4,7 +4,8 @@ ghost use Rattle.std.specs.Prelude.{◌≡◌};
 ghost use Rattle.ask_history.specs.Data.{call_fault_refusal};
 ghost use Rattle.ask_history.specs.declared.outcome.CallFault.TheVariants.{Call, Ask};
 
-use ask::{Answer, AskFault};
+use crate::answered::AnsweredAsk;
+use ask::AskFault;
 use history::outcome::CallFault as SheetCallFault;
 
 #[derive(Clone, Copy, PartialEq, Eq, Debug)]
@@ -51,15 +52,6 @@ impl CallFault {
             CallFault::Ask(refused) => refused.place(),
         }
     }
-}
-
-// An answer with its limbs: the first `lent` of them are the answer's.
-#[derive(Clone, Copy)]
-pub struct AnsweredAsk {
-    pub answer: Answer,
-    // An array and its length: a caller makes room for outcomes by copying one, as [outcome; 8], and an ArrayVec cannot be copied.
-    pub limbs: [u32; 128],
-    pub lent: usize,
 }
 
 // It was refused, or done, with an answer where it asked.

@@ -21,6 +21,7 @@
 
 mod answering;
 mod case;
+mod fault;
 mod reading;
 mod words;
 mod writing;

@@ -1,7 +1,12 @@
 // A case read from its line.
+ghost use Rattle.std.specs.Prelude.{◌≡◌, ◌≢◌, IfOk, IfErr, OnOk, Some, None, []};
+ghost use Rattle.vectors.specs.Words.{words_of};
+ghost use Rattle.vectors.specs.Cases.{with_significand, record_first, with_records, case_of, shown};
+ghost use Rattle.vectors.specs.declared.fault.CaseFault.TheVariants.{OutOfMemory};
+
 use crate::case::Case;
+use crate::fault::CaseFault;
 use crate::words::Words;
-use anyhow::anyhow;
 use batch::Kind;
 use limb_batch::LimbRecord;
 use std::alloc::Global;
@@ -13,9 +18,14 @@ const MOST_READ: u32 = 1025;
 const MOST_DIGITS: u32 = 8192;
 
 // Reads the limbs of a significand into the pool.
-fn read_limbs(words: &mut Words<'_>, precision: u32, pool: &mut Vec<u32>) -> anyhow::Result<()> {
+fn read_limbs(words: &mut Words<'_>, precision: u32, pool: &mut Vec<u32>) -> Result<(), CaseFault>
+    ensures ok { OnOk result (with_significand precision pool.old.items (words_of words.old.rest.now)
+        ≡ Some (pool.new.items, words_of words.new.rest.now)) }
+    ensures err { IfErr result (λ e. e ≢ OutOfMemory →
+        with_significand precision pool.old.items (words_of words.old.rest.now) ≡ None) }
+{
     if precision > MOST_DIGITS {
-        return Err(anyhow!("more digits than are read"));
+        return Err(CaseFault::TooManyDigits);
     }
     for _ in 0..precision.div_ceil(32) {
         pool.push(words.limb()?)?;
@@ -23,7 +33,12 @@ fn read_limbs(words: &mut Words<'_>, precision: u32, pool: &mut Vec<u32>) -> any
     Ok(())
 }
 
-fn read_term(words: &mut Words<'_>, pool: &mut Vec<u32>) -> anyhow::Result<LimbRecord> {
+fn read_record(words: &mut Words<'_>, pool: &mut Vec<u32>) -> Result<LimbRecord, CaseFault>
+    ensures ok { IfOk result (λ r. record_first pool.old.items (words_of words.old.rest.now)
+        ≡ Some (r, pool.new.items, words_of words.new.rest.now)) }
+    ensures err { IfErr result (λ e. e ≢ OutOfMemory →
+        record_first pool.old.items (words_of words.old.rest.now) ≡ None) }
+{
     let kind = words.number::<u32>()?;
     let place = pool.len();
     if !Kind::from(kind).is_regular() {
@@ -45,19 +60,36 @@ fn read_term(words: &mut Words<'_>, pool: &mut Vec<u32>) -> anyhow::Result<LimbR
     })
 }
 
-pub fn read_case(heap: Global, line: &str) -> anyhow::Result<Case> {
-    let mut words = Words::new(line);
-    let mode = words.number::<u32>()?;
-    let width = words.number::<u32>()?;
+// The records of what is left, and the pool of their limbs.
+fn read_records(
+    heap: Global,
+    words: &mut Words<'_>,
+) -> Result<(Vec<LimbRecord>, Vec<u32>), CaseFault>
+    ensures ok { IfOk result (λ read. with_records 1025 [] [] (words_of words.old.rest.now)
+        ≡ Some (read.0.items, read.1.items)) }
+    ensures err { IfErr result (λ e. e ≢ OutOfMemory →
+        with_records 1025 [] [] (words_of words.old.rest.now) ≡ None) }
+{
     let mut records = Vec::new(heap);
     let mut pool = Vec::new(heap);
-    // A term takes several words, so that no chain over words gives the terms.
+    // A record takes several words, so that no chain over words gives the records.
     for _ in 0..MOST_READ {
         if words.are_done() {
             break;
         }
-        records.push(read_term(&mut words, &mut pool)?)?;
+        records.push(read_record(words, &mut pool)?)?;
     }
+    Ok((records, pool))
+}
+
+pub fn read_case(heap: Global, line: &str) -> Result<Case, CaseFault>
+    ensures ok { IfOk result (λ c. case_of line.now ≡ Some (shown c)) }
+    ensures err { IfErr result (λ e. e ≢ OutOfMemory → case_of line.now ≡ None) }
+{
+    let mut words = Words::new(line);
+    let mode = words.number::<u32>()?;
+    let width = words.number::<u32>()?;
+    let (records, pool) = read_records(heap, &mut words)?;
     Ok(Case {
         mode,
         width,

@@ -1,6 +1,7 @@
 // The words of a line, taken one by one from the front.
-ghost use Rattle.std.specs.Prelude.{◌≡◌, ℕ, ◌+◌, ◌≤◌, length, take, Ok, Err, MatchResult, ◌==◌};
-ghost use Rattle.vectors.specs.Words.{first_word, other_words, IsLimb};
+ghost use Rattle.std.specs.Prelude.{◌≡◌, ◌+◌, ◌≤◌, length, take, ◌==◌};
+ghost use Rattle.std.specs.Result.{result_ok};
+ghost use Rattle.vectors.specs.Words.{first_word, other_words, number_of};
 
 use std::num::ParseIntError;
 use std::str::FromStr;
@@ -44,18 +45,18 @@ impl<'a> Words<'a> {
     }
 
     // The next word as a decimal number.
-    pub fn number<N: FromStr<Err = ParseIntError>>(&mut self) -> anyhow::Result<N>
-        ensures number { MatchResult result (λ n. N.from_str_gives (first_word self.old.rest.now) (Ok n)) (λ _. (e : _) × N.from_str_gives (first_word self.old.rest.now) (Err e)) }
+    pub fn number<N: FromStr<Err = ParseIntError>>(&mut self) -> Result<N, ParseIntError>
+        ensures number { N.from_str_gives (first_word self.old.rest.now) result }
         ensures others { self.new.rest.now ≡ other_words self.old.rest.now }
     {
-        Ok(self.next().parse::<N>()?)
+        self.next().parse::<N>()
     }
 
     // The next word as a hexadecimal limb.
-    pub fn limb(&mut self) -> anyhow::Result<u32>
-        ensures limb { MatchResult result (IsLimb (first_word self.old.rest.now)) (λ _. (n : ℕ) → IsLimb (first_word self.old.rest.now) n → ⊥) }
+    pub fn limb(&mut self) -> Result<u32, ParseIntError>
+        ensures limb { result_ok result ≡ number_of 16 (first_word self.old.rest.now) }
         ensures others { self.new.rest.now ≡ other_words self.old.rest.now }
     {
-        Ok(u32::from_str_radix(self.next(), 16)?)
+        u32::from_str_radix(self.next(), 16)
     }
 }

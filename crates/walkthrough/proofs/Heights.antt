@@ -1,5 +1,5 @@
 -- How far down a column may still go.
-use Rattle.std.proofs.Common.{ℕ, suc, ◌<◌, ℤ, pos, neg_ℤ, ◌≤ℤ◌, ◌<ℤ◌, Some, None, Option, IfSome, arith}
+use Rattle.std.proofs.Common.{ℕ, suc, ◌<◌, ℤ, pos, neg_ℤ, ◌≤ℤ◌, Some, None, Option, IfSome, arith}
 use borrow.Author.Differences.{ints}
 use Rattle.exact.specs.Integers.{gap}
 use Rattle.column.specs.Walk.{Highest}

@@ -1,5 +1,6 @@
 // Three batches behind one interface, what each tells of its terms, and records that are refused.
 
+use crate::lines;
 use batch::{Batch, BatchFault, Kind, regular_count};
 use limb_batch::{LimbBatch, LimbRecord};
 use list_batch::{ListBatch, Pair, Scaled};
@@ -29,14 +30,6 @@ fn describe<B: Batch>(rt: &impl Print, name: &str, b: &B) -> io::Result<()> {
     Ok(())
 }
 
-fn refused(rt: &impl Print, name: &str, fault: BatchFault) -> io::Result<()> {
-    println!(rt;
-        "  {name}: refused, {} at {}",
-        fault.number(),
-        fault.place()
-    )
-}
-
 // Prints the terms of a batch, or why there is none.
 fn show<B: Batch + Drop>(
     rt: &impl Print,
@@ -45,7 +38,7 @@ fn show<B: Batch + Drop>(
 ) -> io::Result<()> {
     match opened {
         Ok(batch) => describe(rt, name, &batch),
-        Err(fault) => refused(rt, name, fault),
+        Err(fault) => lines::refused_batch(rt, name, fault),
     }
 }
 
@@ -57,7 +50,7 @@ fn show_refusal<B: Batch + Drop>(
 ) -> io::Result<()> {
     match opened {
         Ok(_) => println!(rt; "  {name}: opened"),
-        Err(fault) => refused(rt, name, fault),
+        Err(fault) => lines::refused_batch(rt, name, fault),
     }
 }
 

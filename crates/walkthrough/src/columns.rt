@@ -1,19 +1,19 @@
 // The columns of a sum with a wide gap, from the top down: what each adds, and the two ends between which the sum lies.
 
-use batch::Batch;
+use batch::{Batch, MOST_TERMS};
 use column::CountedTerms;
 use list_batch::{ListBatch, Scaled};
 use sheet::sheet::OpenSheet;
 use std::io;
 
 // Prints one column's work, and how far the ends lie from the sum as far as this column.
-fn show<B: Batch>(
+fn show(
     rt: &impl Print,
-    counted: &CountedTerms<'_, B>,
     column: i32,
+    total: i64,
+    below: usize,
     next: Option<i32>,
 ) -> io::Result<()> {
-    let (total, below) = counted.column_work(column);
     let weight = 32 * i64::from(column);
     match next {
         Some(lower) => {
@@ -28,11 +28,16 @@ fn show<B: Batch>(
     }
 }
 
-fn down<B: Batch>(rt: &impl Print, counted: &CountedTerms<'_, B>) -> io::Result<()> {
-    let mut here = counted.first_column();
+// The terms go down with each column.
+fn down<B: Batch>(
+    rt: &impl Print,
+    counted: &mut CountedTerms<'_, B, MOST_TERMS>,
+) -> io::Result<()> {
+    let mut here = counted.next_column();
     while let Some(column) = here {
-        let next = counted.next_column(column);
-        show(rt, counted, column, next)?;
+        let (total, below) = counted.column_work(column);
+        let next = counted.next_column();
+        show(rt, column, total, below, next)?;
         here = next;
     }
     Ok(())
@@ -46,7 +51,7 @@ pub fn walk(rt: &impl Print) -> io::Result<()> {
     let _ = sheet.mark(1, 1);
     let set = sheet.set();
     match ListBatch::open(&records) {
-        Ok(opened) => down(rt, &CountedTerms::new(&opened, set.marks())),
+        Ok(opened) => down(rt, &mut CountedTerms::new(&opened, set.marks())),
         Err(_) => println!(rt; "  refused"),
     }
 }

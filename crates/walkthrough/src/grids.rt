@@ -1,5 +1,6 @@
 // Some grids: their widest width, their spacing at some exponents, and numbers that make no grid.
 
+use crate::lines;
 use grid::{FlooredGrid, Format, FreeGrid, Grid, GridFault, NamedGrid, precision_at};
 use std::io;
 
@@ -20,7 +21,7 @@ fn describe<G: Grid>(rt: &impl Print, name: &str, grid: &G) -> io::Result<()> {
 fn show<G: Grid + Drop>(rt: &impl Print, name: &str, made: Result<G, GridFault>) -> io::Result<()> {
     match made {
         Ok(grid) => describe(rt, name, &grid),
-        Err(fault) => println!(rt; "  {name}: refused, {}", fault.number()),
+        Err(fault) => lines::refused_grid(rt, name, fault),
     }
 }
 

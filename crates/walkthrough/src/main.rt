@@ -1,19 +1,23 @@
-// Goes through two entries, call by call, then through one as a list of calls, then through some grids, batches and
-// columns, and prints what came of each.
+// Makes entries from their terms to their answers, then goes through refused marks and undos, a list of calls without asks, and
+// some grids, batches and columns; prints each call and what came of it.
 #![tactic(auto)]
 
+mod asked_list;
+mod asks;
 mod batches;
 mod columns;
-mod entries;
 mod grids;
-mod list;
+mod lines;
+mod refusals;
+mod sheet_list;
 
 use std::io;
 
 fn main(rt: HostRuntime) -> io::Result<()> {
-    entries::first(&rt)?;
-    entries::second(&rt)?;
-    list::run_listed(&rt)?;
+    asks::walk(&rt)?;
+    asked_list::walk(&rt)?;
+    refusals::walk(&rt)?;
+    sheet_list::walk(&rt)?;
     grids::walk(&rt)?;
     batches::walk(&rt)?;
     columns::walk(&rt)

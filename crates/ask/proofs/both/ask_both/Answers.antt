@@ -20,6 +20,11 @@ returns-in_err-check-clause-both g c =
     (inl (sym (as_read _ _ c.width-width.result _ ts u 1 (length low) c.marks-marks.ensures.same c.width-width.ensures)
     ∙ c.in_err-check.ensures ts u 1 downward (sym c.count-terms.ensures) refl))
 
+pub returns-in_err-check-clause-reached : goal.returns-in_err-check-clause-reached
+returns-in_err-check-clause-reached g c =
+    both_reached (g.B.Batch.terms c.args.batch.now) (g.G.Grid.spacing c.args.grid.now) (g.G.Grid.widest c.args.grid.now) (length c.args.low.now) (length c.args.high.now)
+    (g.B.Batch.limited c.args.batch.now) (g.G.Grid.lawful c.args.grid.now) c.args.sheet.now c.from_residual.result c.args.low.now c.args.high.now (returns-in_err-check-clause-both g c)
+
 pub returns-in_err-check-2-clause-both : goal.returns-in_err-check-2-clause-both
 returns-in_err-check-2-clause-both g c =
     let ts = g.B.Batch.terms c.args.batch.now in
@@ -35,6 +40,11 @@ returns-in_err-check-2-clause-both g c =
       sym (as_read _ _ c.width-width.result _ ts u 2 (length high) c.marks-marks.ensures.same c.width-width.ensures)
           ∙ c.in_err-check-2.ensures ts u 2 upward (sym c.count-terms.ensures) refl,
     ))
+
+pub returns-in_err-check-2-clause-reached : goal.returns-in_err-check-2-clause-reached
+returns-in_err-check-2-clause-reached g c =
+    both_reached (g.B.Batch.terms c.args.batch.now) (g.G.Grid.spacing c.args.grid.now) (g.G.Grid.widest c.args.grid.now) (length c.args.low.now) (length c.args.high.now)
+    (g.B.Batch.limited c.args.batch.now) (g.G.Grid.lawful c.args.grid.now) c.args.sheet.now c.from_residual-in_err-check-2.result c.args.low.now c.args.high.now (returns-in_err-check-2-clause-both g c)
 
 pub returns : goal.returns
 returns g c =

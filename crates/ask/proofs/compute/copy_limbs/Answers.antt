@@ -1,5 +1,5 @@
 -- The limbs that are copied, and those above them that are cleared.
-use Rattle.std.proofs.Common.{◌≡◌, ◌-◌, ◌+◌, ◌<◌, ◌++◌, List, ℕ, length, take, get_or, sym, ap, ◌∙◌, arith, rules}
+use Rattle.std.proofs.Common.{◌≡◌, ◌-◌, ◌+◌, ◌++◌, List, ℕ, length, take, ap, ◌∙◌, arith, rules}
 use Rattle.std.specs.Prelude.{replicate}
 use Rattle.exact.specs.Limbs.{limbs_value}
 use Rattle.answers.specs.Published.{limbs_of}

@@ -1,6 +1,6 @@
 // An entry made as a list of calls, asks among them.
 
-use crate::show;
+use crate::lines;
 use ask_history::call::{Asking, Call};
 use ask_history::outcome::Outcome;
 use ask_history::run::run;
@@ -36,7 +36,7 @@ fn show_call(rt: &impl Print, call: Call<FreeGrid>) -> io::Result<()> {
 fn show_outcome(rt: &impl Print, outcome: Outcome) -> io::Result<()> {
     match outcome {
         Ok(None) => println!(rt; "done"),
-        Ok(Some(answered)) => show::answer(rt, Ok(answered.answer), &answered.limbs),
+        Ok(Some(answered)) => lines::answer(rt, Ok(answered.answer), &answered.limbs),
         Err(fault) => println!(rt; "refused, {} at {}", fault.number(), fault.place()),
     }
 }
@@ -59,7 +59,7 @@ fn run_calls(rt: &impl Print, calls: &[Call<FreeGrid>]) -> io::Result<()> {
             show_all(rt, calls, &outcomes)?;
             marks(rt, &sheet)
         }
-        Err(_) => println!(rt; "  no such batch"),
+        Err(fault) => lines::refused_batch(rt, "batch", fault),
     }
 }
 
@@ -78,10 +78,10 @@ fn run_on(rt: &impl Print, grid: FreeGrid) -> io::Result<()> {
     run_calls(rt, &calls)
 }
 
-pub fn run_listed(rt: &impl Print) -> io::Result<()> {
-    println!(rt; "an entry as a list of calls: 3 - 2^-2000, two bits")?;
+pub fn walk(rt: &impl Print) -> io::Result<()> {
+    println!(rt; "fourth entry, as a list of calls: 3 - 2^-2000, two bits")?;
     match FreeGrid::new(2) {
         Ok(grid) => run_on(rt, grid),
-        Err(_) => println!(rt; "  no such grid"),
+        Err(fault) => lines::refused_grid(rt, "two bits", fault),
     }
 }

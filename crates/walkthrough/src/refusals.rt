@@ -1,4 +1,4 @@
-// Two entries made by calls on the sheets themselves.
+// What marking and undoing refuse, by calls on the sheets themselves.
 
 use sheet::sheet::OpenSheet;
 use sheet_lines::{lay, mark, marks, reopen, set, undo};
@@ -32,9 +32,9 @@ fn fill_trail(rt: &impl Print, sheet: &mut OpenSheet) -> io::Result<()> {
     mark(rt, sheet, 5, 2)
 }
 
-// An entry from the laying of its sheet to the set sheet, reopened once.
-pub fn first(rt: &impl Print) -> io::Result<()> {
-    println!(rt; "first entry")?;
+// From the laying of a sheet to the set sheet, reopened once.
+fn refused_calls(rt: &impl Print) -> io::Result<()> {
+    println!(rt; "what marking and undoing refuse")?;
     let mut sheet = lay(rt)?;
     try_marks(rt, &mut sheet)?;
     fill_trail(rt, &mut sheet)?;
@@ -46,12 +46,17 @@ pub fn first(rt: &impl Print) -> io::Result<()> {
     Ok(())
 }
 
-// An entry laid anew: it inherits nothing.
-pub fn second(rt: &impl Print) -> io::Result<()> {
-    println!(rt; "second entry")?;
+// A sheet laid anew inherits nothing.
+fn laid_anew(rt: &impl Print) -> io::Result<()> {
+    println!(rt; "a sheet laid anew, which inherits nothing")?;
     let mut sheet = lay(rt)?;
     undo(rt, &mut sheet)?;
     mark(rt, &mut sheet, 1023, 2)?;
     let _ = set(rt, sheet)?;
     Ok(())
+}
+
+pub fn walk(rt: &impl Print) -> io::Result<()> {
+    refused_calls(rt)?;
+    laid_anew(rt)
 }

@@ -1,7 +1,7 @@
 // Entries from their terms to their answers: three batches, marks and an undo, the setter's ask downward and the reader's upward,
 // nearest on two grids, both neighbours at once, and a sheet that is reopened.
 
-use crate::show;
+use crate::lines;
 use ask::{ask, ask_both};
 use batch::{Batch, BatchFault, Kind};
 use grid::{Format, FreeGrid, Grid, Mode, NamedGrid};
@@ -20,8 +20,14 @@ const POOL: [u32; 5] = [
     0x8000_0000,
 ];
 
+const ASKS_IN_BINARY64: [(&str, Mode); 3] = [
+    ("of the setter, downward, binary64", Mode::Downward),
+    ("of the reader, upward, binary64", Mode::Upward),
+    ("nearest, binary64", Mode::Nearest),
+];
+
 // One ask, of one sheet about one batch: passed on as the ask takes it.
-fn one<B: Batch, G: Grid>(
+fn ask_once<B: Batch, G: Grid>(
     rt: &impl Print,
     name: &str,
     sheet: &SetSheet,
@@ -32,7 +38,7 @@ fn one<B: Batch, G: Grid>(
     let mut limbs = [0u32; 3];
     let result = ask(sheet, batch, grid, mode as u32, &mut limbs);
     print!(rt; "  ask {name}: ")?;
-    show::answer(rt, result, &limbs)
+    lines::answer(rt, result, &limbs)
 }
 
 // Both neighbours of the exact sum, from one call.
@@ -47,72 +53,51 @@ fn neighbours<B: Batch, G: Grid>(
     match ask_both(sheet, batch, grid, &mut low, &mut high) {
         Ok((down, up)) => {
             print!(rt; "  lower neighbour, 24 bits: ")?;
-            show::answer(rt, Ok(down), &low)?;
+            lines::answer(rt, Ok(down), &low)?;
             print!(rt; "  upper neighbour, 24 bits: ")?;
-            show::answer(rt, Ok(up), &high)
+            lines::answer(rt, Ok(up), &high)
         }
-        Err(fault) => show::answer(rt, Err(fault), &low),
+        Err(fault) => lines::answer(rt, Err(fault), &low),
     }
 }
 
-fn on_both_grids<B: Batch, F: Grid, G: Grid>(
+fn ask_on_both_grids<B: Batch, F: Grid, G: Grid>(
     rt: &impl Print,
     sheet: &SetSheet,
     batch: &B,
     binary64: &F,
     single: &G,
 ) -> io::Result<()> {
-    one(
-        rt,
-        "of the setter, downward, binary64",
-        sheet,
-        batch,
-        binary64,
-        Mode::Downward,
-    )?;
-    one(
-        rt,
-        "of the reader, upward, binary64",
-        sheet,
-        batch,
-        binary64,
-        Mode::Upward,
-    )?;
-    one(
-        rt,
-        "nearest, binary64",
-        sheet,
-        batch,
-        binary64,
-        Mode::Nearest,
-    )?;
-    one(rt, "nearest, 24 bits", sheet, batch, single, Mode::Nearest)?;
+    for (name, mode) in ASKS_IN_BINARY64 {
+        ask_once(rt, name, sheet, batch, binary64, mode)?;
+    }
+    ask_once(rt, "nearest, 24 bits", sheet, batch, single, Mode::Nearest)?;
     neighbours(rt, sheet, batch, single)
 }
 
 // The asks of one entry, on binary64 and on the free grid of 24 bits.
-fn all<B: Batch>(rt: &impl Print, sheet: &SetSheet, batch: &B) -> io::Result<()> {
+fn ask_all<B: Batch>(rt: &impl Print, sheet: &SetSheet, batch: &B) -> io::Result<()> {
     let binary64 = NamedGrid::of(Format::Binary64);
     match FreeGrid::new(24) {
-        Ok(single) => on_both_grids(rt, sheet, batch, &binary64, &single),
-        Err(_) => println!(rt; "  no such grid"),
+        Ok(single) => ask_on_both_grids(rt, sheet, batch, &binary64, &single),
+        Err(fault) => lines::refused_grid(rt, "24 bits", fault),
     }
 }
 
-// The same of a batch that is still to be opened, or why it is refused.
-fn all_of<B: Batch + Drop>(
+// The same of a batch that was opened, or why it was refused.
+fn ask_opened<B: Batch>(
     rt: &impl Print,
     sheet: &SetSheet,
-    opened: Result<B, BatchFault>,
+    opened: &Result<B, BatchFault>,
 ) -> io::Result<()> {
     match opened {
-        Ok(batch) => all(rt, sheet, &batch),
-        Err(fault) => println!(rt; "  refused, {}", fault.number()),
+        Ok(batch) => ask_all(rt, sheet, batch),
+        Err(fault) => lines::refused_batch(rt, "batch", *fault),
     }
 }
 
 // Marks two terms and takes one back, turns the third.
-fn mark_first(rt: &impl Print, sheet: &mut OpenSheet) -> io::Result<()> {
+fn mark_with_undo(rt: &impl Print, sheet: &mut OpenSheet) -> io::Result<()> {
     mark(rt, sheet, 0, 1)?;
     mark(rt, sheet, 1, 1)?;
     undo(rt, sheet)?;
@@ -120,21 +105,22 @@ fn mark_first(rt: &impl Print, sheet: &mut OpenSheet) -> io::Result<()> {
 }
 
 // Pi to 96 digits, less 2^-2000; then with 5 * 2^38 too, after the sheet is reopened.
-fn limbs(rt: &impl Print) -> io::Result<()> {
-    println!(rt; "entry: pi - 2^-2000, from limbs\n  lay")?;
+fn from_limbs(rt: &impl Print) -> io::Result<()> {
+    println!(rt; "first entry: pi - 2^-2000, from limbs")?;
     let records = [
         LimbRecord::new(Kind::Positive, 2, 96, 0),
         LimbRecord::new(Kind::Positive, 41, 3, 3),
         LimbRecord::new(Kind::Positive, -1999, 1, 4),
     ];
-    let mut sheet = OpenSheet::new();
-    mark_first(rt, &mut sheet)?;
+    let opened = LimbBatch::open(&records, &POOL);
+    let mut sheet = lay(rt)?;
+    mark_with_undo(rt, &mut sheet)?;
     let set_sheet = set(rt, sheet)?;
-    all_of(rt, &set_sheet, LimbBatch::open(&records, &POOL))?;
+    ask_opened(rt, &set_sheet, &opened)?;
     let mut reopened = reopen(rt, set_sheet)?;
     mark(rt, &mut reopened, 1, 1)?;
     let again = set(rt, reopened)?;
-    all_of(rt, &again, LimbBatch::open(&records, &POOL))
+    ask_opened(rt, &again, &opened)
 }
 
 // A sheet laid anew, with the first two places in.
@@ -145,26 +131,26 @@ fn laid_anew(rt: &impl Print) -> io::Result<SetSheet> {
     set(rt, sheet)
 }
 
-fn pairs(rt: &impl Print) -> io::Result<()> {
-    println!(rt; "entry: pi, from a pair of floats")?;
+fn from_a_pair(rt: &impl Print) -> io::Result<()> {
+    println!(rt; "second entry: pi, from a pair of floats")?;
     let pair = Pair {
         head: 3.141592653589793,
         tail: 1.2246467991473532e-16,
     };
     let rows = [pair.row()];
     let sheet = laid_anew(rt)?;
-    all_of(rt, &sheet, ListBatch::open(&rows))
+    ask_opened(rt, &sheet, &ListBatch::open(&rows))
 }
 
-fn scaled(rt: &impl Print) -> io::Result<()> {
-    println!(rt; "entry: 5 * 2^38 + 2^-5, from scaled integers")?;
+fn from_scaled_integers(rt: &impl Print) -> io::Result<()> {
+    println!(rt; "third entry: 5 * 2^38 + 2^-5, from scaled integers")?;
     let records = [Scaled::new(5, 38), Scaled::new(1, -5)];
     let sheet = laid_anew(rt)?;
-    all_of(rt, &sheet, ListBatch::open(&records))
+    ask_opened(rt, &sheet, &ListBatch::open(&records))
 }
 
 pub fn walk(rt: &impl Print) -> io::Result<()> {
-    limbs(rt)?;
-    pairs(rt)?;
-    scaled(rt)
+    from_limbs(rt)?;
+    from_a_pair(rt)?;
+    from_scaled_integers(rt)
 }

@@ -1,6 +1,8 @@
-// What is printed of an answer.
+// Lines of an answer, and of batches and grids that are refused.
 
 use ask::{Answer, AskFault};
+use batch::BatchFault;
+use grid::GridFault;
 use std::io;
 
 // Prints the limbs of an answer, the least significant first.
@@ -36,4 +38,18 @@ pub fn answer(
         }
         Err(fault) => println!(rt; "refused, {} at {}", fault.number(), fault.place()),
     }
+}
+
+// Prints why there is no batch.
+pub fn refused_batch(rt: &impl Print, name: &str, fault: BatchFault) -> io::Result<()> {
+    println!(rt;
+        "  {name}: refused, {} at {}",
+        fault.number(),
+        fault.place()
+    )
+}
+
+// Prints why there is no grid.
+pub fn refused_grid(rt: &impl Print, name: &str, fault: GridFault) -> io::Result<()> {
+    println!(rt; "  {name}: refused, {}", fault.number())
 }

@@ -1,4 +1,4 @@
-// An entry made as a list of calls.
+// A list of a sheet's own calls, without asks.
 
 use history::call::SheetCall;
 use history::outcome::Outcome;
@@ -25,8 +25,8 @@ fn show(rt: &impl Print, call: SheetCall, outcome: Outcome) -> io::Result<()> {
     }
 }
 
-pub fn run_listed(rt: &impl Print) -> io::Result<()> {
-    println!(rt; "third entry, as a list of calls")?;
+pub fn walk(rt: &impl Print) -> io::Result<()> {
+    println!(rt; "a list of calls without asks")?;
     let mut outcomes = [Ok(()); 9];
     let sheet = run(&CALLS, &mut outcomes);
     for (call, outcome) in CALLS.iter().zip(outcomes.iter()) {
