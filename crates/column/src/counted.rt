@@ -15,7 +15,7 @@ mod listing;
 mod walk;
 mod work;
 
-// They stand at a column. The run of columns down from it is added up already; their zones are those of the run.
+// They stand at a column, in a run of columns that is added up already; their zones are those of the run. The next run has `height` columns.
 #[derive(Drop)]
 pub struct CountedTerms<'b, B: Batch, const CAP: usize> {
     batch: &'b B,

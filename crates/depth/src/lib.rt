@@ -44,9 +44,14 @@ pub fn round_sum<B: Batch, G: Grid>(
     }
 }
 
-// As many columns as so many digits lie in, one that they may reach into, and one for the rest: these settle most sums. Only speed hangs on it.
-fn run_height(width: u32) -> usize {
-    width as usize / 32 + 3
+// How many columns are added up at first. Few digits are settled by two or three columns, one after the other; many by as many as they lie in, one that
+// they may reach into, and one for the rest. Only speed hangs on it.
+fn first_height(width: u32) -> usize {
+    if width <= 64 {
+        1
+    } else {
+        width as usize / 32 + 3
+    }
 }
 
 // With a small list.
@@ -61,7 +66,7 @@ fn round_few<B: Batch, G: Grid>(
     requires room { length answer.old ≡ 128 }
     ensures { SumRounded (G.Grid.spacing rounding.entry.grid.now) (mode_of rounding.entry.mode) (parts_of (shown marks.now) (B.Batch.terms batch.now)) result (limbs_value answer.new) }
 {
-    let height = run_height(rounding.grid.width());
+    let height = first_height(rounding.grid.width());
     let mut terms: CountedTerms<B, FEW> = CountedTerms::new(batch, marks, height);
     descend(&mut terms, rounding, answer)
 }
@@ -77,7 +82,7 @@ fn round_many<B: Batch, G: Grid>(
     requires { length answer.old ≡ 128 }
     ensures { SumRounded (G.Grid.spacing rounding.entry.grid.now) (mode_of rounding.entry.mode) (parts_of (shown marks.now) (B.Batch.terms batch.now)) result (limbs_value answer.new) }
 {
-    let height = run_height(rounding.grid.width());
+    let height = first_height(rounding.grid.width());
     let mut terms: CountedTerms<B, MOST_TERMS> = CountedTerms::new(batch, marks, height);
     descend(&mut terms, rounding, answer)
 }

@@ -45,7 +45,7 @@ impl<'b, B: Batch, const CAP: usize> CountedTerms<'b, B, CAP> {
     ghost use Rattle.column.specs.CountedTerms.{listed_parts, standing};
 
     // Lists the counted terms, in one pass over the batch. They stand above all columns. Who asks has room for all terms of the batch.
-    // Columns are added up in runs of this height, which changes no result.
+    // The first run of columns that is added up has this height, which changes no result.
     pub fn new(batch: &'b B, marks: &Marks, height: usize) -> CountedTerms<'b, B, CAP>
         requires room { length (B.Batch.terms batch.now) ≤ CAP }
         ensures listed { listed_parts result ≡ parts_of (shown marks.now) (B.Batch.terms batch.now) }

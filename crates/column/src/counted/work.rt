@@ -77,7 +77,7 @@ impl<'b, B: Batch, const CAP: usize> CountedTerms<'b, B, CAP> {
         self.column = column;
     }
 
-    // Adds up the run of columns down from one, and goes there.
+    // Adds up the run of columns down from one, and goes there. The next run is twice as high: who goes on may have far to go.
     fn add_up(&mut self, top: i32)
         requires down { top <ℤ standing self.old }
         requires near { neg_ℤ (pos 60000000) ≤ℤ top }
@@ -95,6 +95,7 @@ impl<'b, B: Batch, const CAP: usize> CountedTerms<'b, B, CAP> {
         };
         self.zones = zones;
         self.column = top;
+        self.height = (2 * self.height).min(MOST_COLUMNS);
     }
 
     // The total of the column at which the terms stand.
