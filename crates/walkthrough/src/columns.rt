@@ -51,7 +51,7 @@ pub fn walk(rt: &impl Print) -> io::Result<()> {
     let _ = sheet.mark(1, 1);
     let set = sheet.set();
     match ListBatch::open(&records) {
-        Ok(opened) => down(rt, &mut CountedTerms::new(&opened, set.marks())),
+        Ok(opened) => down(rt, &mut CountedTerms::new(&opened, set.marks(), 1)),
         Err(_) => println!(rt; "  refused"),
     }
 }
