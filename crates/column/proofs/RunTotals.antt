@@ -1,5 +1,5 @@
 -- Totals of a run of columns, as more terms are added.
-use Rattle.std.proofs.Common.{◌≡◌, ℕ, zero, suc, ◌+◌, ◌^◌, ◌<◌, ◌≤◌, Bool, List, length, replicate, ℤ, pos, ◌+ℤ◌, nat_abs, refl, sym, ap, ◌∙◌, subst, ⊎_elim, arith, w64, to_z, of_z}
+use Rattle.std.proofs.Common.{◌≡◌, ℕ, zero, suc, ◌+◌, ◌^◌, ◌<◌, ◌≤◌, Bool, List, length, replicate, ℤ, pos, ◌+ℤ◌, nat_abs, refl, sym, ap, ◌∙◌, subst, ⊎_elim, arith, w64, to_z, of_z, SFits}
 use lib.ListN.{set}
 use borrow.Author.Differences.{ints}
 use Rattle.std.proofs.lemmas.Bool.{cases_eq}
@@ -14,6 +14,12 @@ pub sum_kept : (x : ℤ) (s : Bool) (n : ℕ) (d : ℤ) → nat_abs x < 2 ^ 42 �
 sum_kept x s n d h l e =
     let m : nat_abs d < 2 ^ 32 = subst (λ (z : ℤ). nat_abs z < 2 ^ 32) (sym e) (signed_small s n l) in
     omega (arith, ints, e)
+
+-- the same where the sum so far is at hand as a number, and it fits
+pub sum_grown : (x : ℤ) (s : Bool) (n : ℕ) (d : ℤ) → nat_abs x < 2 ^ 42 → n < 2 ^ 32 → d ≡ signed s n → SFits w64 (x +ℤ to_z w64 (of_z w64 d)) × (to_z w64 (of_z w64 (x +ℤ to_z w64 (of_z w64 d))) ≡ x +ℤ signed s n)
+sum_grown x s n d h l e =
+    let m : nat_abs d < 2 ^ 32 = subst (λ (z : ℤ). nat_abs z < 2 ^ 32) (sym e) (signed_small s n l) in
+    (grind (arith, ints), omega (arith, ints, e))
 
 -- one place more of a list is known, the others after it as before
 pub one_more : (P : ℕ → ℤ) (ys : List ℤ) (j : ℕ) (x : ℤ) → j < length ys → x ≡ P j → ((k : ℕ) → k < j → total_at ys k ≡ P k) → (k : ℕ) → k < j + 1 → total_at (set ys j x) k ≡ P k

@@ -1,5 +1,5 @@
 // The terms that count in a sum, the marked regular ones of a batch, listed once so that each column's work goes through those alone that reach it.
-ghost use Rattle.std.specs.Prelude.{◌<◌, ◌≤◌, ◌≤ℤ◌, ◌<ℤ◌, ◌+ℤ◌, length, pos};
+ghost use Rattle.std.specs.Prelude.{◌≤◌, ◌≤ℤ◌, ◌<ℤ◌, ◌+ℤ◌, length, pos};
 ghost use Rattle.column.specs.Edges.{SpansListed};
 ghost use Rattle.column.specs.Listed.{parts_listed, RegularListed, RegularListed-prop};
 ghost use Rattle.column.specs.Runs.{Totalled};
@@ -15,7 +15,8 @@ mod listing;
 mod walk;
 mod work;
 
-// They stand at a column, in a run of columns that is added up already; their zones are those of the run. The next run has `height` columns.
+// They stand at a column, in a run of columns that is added up already; their zones are those of the run. So many columns more as `singles` says are added
+// up one by one, and then long runs.
 #[derive(Drop)]
 pub struct CountedTerms<'b, B: Batch, const CAP: usize> {
     batch: &'b B,
@@ -23,12 +24,10 @@ pub struct CountedTerms<'b, B: Batch, const CAP: usize> {
     column: i32,
     zones: Zones,
     run: Run,
-    height: usize,
+    singles: usize,
     ghost within_run: { run.bottom ≤ℤ column },
     ghost not_above: { column ≤ℤ run.top },
     ghost short_run: { run.top <ℤ (run.bottom +ℤ pos 34) },
-    ghost some_columns: { 0 < height },
-    ghost few_columns: { height ≤ 34 },
     ghost fits: { length terms.items ≤ 1024 },
     ghost regular: { RegularListed (B.Batch.terms batch.now) terms.items } by { RegularListed-prop (B.Batch.terms batch.now) terms.items },
     ghost spans: { SpansListed (B.Batch.terms batch.now) terms.items },

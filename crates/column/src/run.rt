@@ -15,7 +15,7 @@ pub struct Run {
 }
 
 // A digit with a sign.
-fn signed(negative: bool, digit: u32) -> i64
+pub fn signed(negative: bool, digit: u32) -> i64
     ensures { result ≡ signed negative digit }
 {
     let magnitude = i64::from(digit);

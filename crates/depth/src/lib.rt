@@ -44,14 +44,9 @@ pub fn round_sum<B: Batch, G: Grid>(
     }
 }
 
-// How many columns are added up at first. Few digits are settled by two or three columns, one after the other; many by as many as they lie in, one that
-// they may reach into, and one for the rest. Only speed hangs on it.
-fn first_height(width: u32) -> usize {
-    if width <= 64 {
-        1
-    } else {
-        width as usize / 32 + 3
-    }
+// How many columns are added up one by one at first. Few digits are settled by two or three columns; many by as many as a long run has. Only speed hangs on it.
+fn columns_one_by_one(width: u32) -> usize {
+    if width <= 64 { 8 } else { 0 }
 }
 
 // With a small list.
@@ -66,8 +61,8 @@ fn round_few<B: Batch, G: Grid>(
     requires room { length answer.old ≡ 128 }
     ensures { SumRounded (G.Grid.spacing rounding.entry.grid.now) (mode_of rounding.entry.mode) (parts_of (shown marks.now) (B.Batch.terms batch.now)) result (limbs_value answer.new) }
 {
-    let height = first_height(rounding.grid.width());
-    let mut terms: CountedTerms<B, FEW> = CountedTerms::new(batch, marks, height);
+    let singles = columns_one_by_one(rounding.grid.width());
+    let mut terms: CountedTerms<B, FEW> = CountedTerms::new(batch, marks, singles);
     descend(&mut terms, rounding, answer)
 }
 
@@ -82,7 +77,7 @@ fn round_many<B: Batch, G: Grid>(
     requires { length answer.old ≡ 128 }
     ensures { SumRounded (G.Grid.spacing rounding.entry.grid.now) (mode_of rounding.entry.mode) (parts_of (shown marks.now) (B.Batch.terms batch.now)) result (limbs_value answer.new) }
 {
-    let height = first_height(rounding.grid.width());
-    let mut terms: CountedTerms<B, MOST_TERMS> = CountedTerms::new(batch, marks, height);
+    let singles = columns_one_by_one(rounding.grid.width());
+    let mut terms: CountedTerms<B, MOST_TERMS> = CountedTerms::new(batch, marks, singles);
     descend(&mut terms, rounding, answer)
 }

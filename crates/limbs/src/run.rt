@@ -46,8 +46,8 @@ fn bits_before(limbs: &[u32], end: usize, shift: usize, run: &mut [u32])
     bits_below(limbs, shift as i64 - 32, below);
 }
 
-// In three parts: above the limbs, within them, and below the lowest bit.
-fn bits_in_parts(limbs: &[u32], from: i64, run: &mut [u32])
+// The 32 bits from the bit `from` on, and those below them, 32 for each place of the slice.
+pub fn bits_down(limbs: &[u32], from: i64, run: &mut [u32])
     ensures many { length run.new ≡ length run.old }
     ensures each { (j : ℕ) → j < length run.old → slice_index run.new j ≡ bits_at_weight (limbs_value limbs.now) (from -ℤ pos (32 * j)) }
 {
@@ -60,16 +60,4 @@ fn bits_in_parts(limbs: &[u32], from: i64, run: &mut [u32])
     let (above, rest) = run.split_at_mut(run.len().min(end - inside));
     above.fill(0);
     bits_before(limbs, inside, shift, rest);
-}
-
-// The 32 bits from the bit `from` on, and those below them, 32 for each place of the slice. One place alone is read quicker by itself.
-pub fn bits_down(limbs: &[u32], from: i64, run: &mut [u32])
-    ensures many { length run.new ≡ length run.old }
-    ensures each { (j : ℕ) → j < length run.old → slice_index run.new j ≡ bits_at_weight (limbs_value limbs.now) (from -ℤ pos (32 * j)) }
-{
-    if run.len() == 1 {
-        run[0] = bits_from(&limbs, from);
-    } else {
-        bits_in_parts(limbs, from, run);
-    }
 }

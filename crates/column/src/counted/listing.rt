@@ -45,8 +45,8 @@ impl<'b, B: Batch, const CAP: usize> CountedTerms<'b, B, CAP> {
     ghost use Rattle.column.specs.CountedTerms.{listed_parts, standing};
 
     // Lists the counted terms, in one pass over the batch. They stand above all columns. Who asks has room for all terms of the batch.
-    // The first run of columns that is added up has this height, which changes no result.
-    pub fn new(batch: &'b B, marks: &Marks, height: usize) -> CountedTerms<'b, B, CAP>
+    // So many columns are added up one by one at first, all others in long runs. That changes no result.
+    pub fn new(batch: &'b B, marks: &Marks, singles: usize) -> CountedTerms<'b, B, CAP>
         requires room { length (B.Batch.terms batch.now) ≤ CAP }
         ensures listed { listed_parts result ≡ parts_of (shown marks.now) (B.Batch.terms batch.now) }
         ensures above { first_below (standing result) (columns (listed_parts result)) ≡ first_column (columns (listed_parts result)) }
@@ -73,7 +73,7 @@ impl<'b, B: Batch, const CAP: usize> CountedTerms<'b, B, CAP> {
                 bottom: i32::MAX,
                 totals: [0; MOST_COLUMNS],
             },
-            height: height.clamp(1, MOST_COLUMNS),
+            singles,
         }
     }
 }

@@ -12,7 +12,7 @@ ghost use Rattle.column.specs.Zones.{Zoned};
 
 use crate::counted::CountedTerms;
 use crate::parting::go_down;
-use crate::run::{MOST_COLUMNS, Run, add_signed};
+use crate::run::{MOST_COLUMNS, Run, add_signed, signed};
 use crate::term::CountedTerm;
 use batch::Batch;
 
@@ -21,6 +21,26 @@ fn count_below(terms: &[CountedTerm], column: i32) -> usize
     ensures { result ≡ length (filter (λ c. int_lt c.last column) terms.now) }
 {
     terms.iter().filter(|term| term.last < column).count()
+}
+
+// How many columns the next run has.
+fn next_height(singles: usize) -> usize
+    ensures some { 0 < result }
+    ensures few { result ≤ 34 }
+{
+    if singles > 0 { 1 } else { MOST_COLUMNS }
+}
+
+// The total of one column, of some terms of a batch.
+fn total_of<B: Batch>(batch: &B, terms: &[CountedTerm], column: i32) -> i64
+    requires { length terms.now ≤ 1024 }
+    ensures { result ≡ column_total (parts_listed (B.Batch.terms batch.now) terms.now) column }
+{
+    let mut total: i64 = 0;
+    for &term in terms {
+        total += signed(term.negative, batch.digit(usize::from(term.place), column));
+    }
+    total
 }
 
 // The totals of so many columns down from one, of some terms of a batch: term by term, since a batch reads a run of digits of one term at once.
@@ -35,6 +55,10 @@ fn run_totals<B: Batch>(
     ensures { TotalsFrom (parts_listed (B.Batch.terms batch.now) terms.now) top height result }
 {
     let mut totals = [0i64; MOST_COLUMNS];
+    if height == 1 {
+        totals[0] = total_of(batch, terms, top);
+        return totals;
+    }
     let mut digits = [0u32; MOST_COLUMNS];
     for &term in terms {
         let digits = &mut digits[..height];
@@ -77,17 +101,18 @@ impl<'b, B: Batch, const CAP: usize> CountedTerms<'b, B, CAP> {
         self.column = column;
     }
 
-    // Adds up the run of columns down from one, and goes there. The next run is twice as high: who goes on may have far to go.
+    // Adds up the run of columns down from one, and goes there.
     fn add_up(&mut self, top: i32)
         requires down { top <ℤ standing self.old }
         requires near { neg_ℤ (pos 60000000) ≤ℤ top }
         ensures at { standing self.new ≡ top }
         ensures same { SameColumns (listed_parts self.old) (listed_parts self.new) }
     {
-        let bottom = top - (self.height - 1) as i32;
+        let height = next_height(self.singles);
+        let bottom = top - (height - 1) as i32;
         let zones = go_down(self.terms.as_mut_slice(), self.zones, top, bottom);
         let begun = &self.terms.as_slice()[zones.ended..zones.begun];
-        let totals = run_totals(self.batch, begun, top, self.height);
+        let totals = run_totals(self.batch, begun, top, height);
         self.run = Run {
             top,
             bottom,
@@ -95,7 +120,7 @@ impl<'b, B: Batch, const CAP: usize> CountedTerms<'b, B, CAP> {
         };
         self.zones = zones;
         self.column = top;
-        self.height = (2 * self.height).min(MOST_COLUMNS);
+        self.singles = self.singles.saturating_sub(1);
     }
 
     // The total of the column at which the terms stand.

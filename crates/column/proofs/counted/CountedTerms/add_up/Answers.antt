@@ -25,24 +25,24 @@ invariant_of-self g c =
     let back = refilled xs ys moved in
     let spans = spans_permuted ts xs ys moved x.spans in
     let regular = regular_permuted ts xs ys moved x.regular in
+    let height = c.next_height-height.result in
+    let few = c.next_height-height.ensures in
     let top = to_z w32 (of_z w32 c.args.top) in
     let high = to_z-of_z w32 c.args.top c.ranges.top in
-    let bottom = to_z w32 (of_z w32 (to_z w32 (of_z w32 c.args.top) -ℤ to_z w32 (x.height - 1))) in
-    let low : bottom ≡ c.args.top -ℤ pos (x.height - 1) = omega (arith, ints, high, c.ranges.top, c.requires.near, x.few_columns) in
+    let bottom = to_z w32 (of_z w32 (to_z w32 (of_z w32 c.args.top) -ℤ to_z w32 (height - 1))) in
+    let low : bottom ≡ c.args.top -ℤ pos (height - 1) = omega (arith, ints, high, c.ranges.top, c.requires.near, few.few) in
     let zoned = c.go_down-zones.ensures.zoned in
     rw back record {
       within_run = omega (arith, ints, low, high);
       not_above = omega (arith, ints);
-      short_run = omega (arith, ints, low, high, x.few_columns);
-      some_columns = omega (arith, x.some_columns, c.min-self.ensures);
-      few_columns = omega (arith, c.min-self.ensures);
+      short_run = omega (arith, ints, low, high, few.few);
       fits = omega (arith, length_permutation xs ys moved, x.fits);
       regular = regular;
       spans = spans;
       zoned = zoned;
       totalled = λ k from upto.
           let j = gap top k in
-          let in_run : j < x.height = omega (arith, ints, low, high, from, upto, x.some_columns) in
+          let in_run : j < height = omega (arith, ints, low, high, from, upto, few.some) in
           let at : top -ℤ pos j ≡ k = omega (arith, ints, from, upto) in
           c.run_totals-totals.ensures j in_run
           ∙ ap₂ (λ (zs : List CountedTerm) (n : ℤ). column_total (parts_listed ts (take (z.begun - z.ended) (drop z.ended zs))) n) (c.as_slice.ensures.value ∙ back) at

@@ -4,7 +4,7 @@ use borrow.Author.Differences.{ints}
 use Rattle.exact.specs.Limbs.{limbs_value}
 use Rattle.limbs.specs.Bits.{bits_at_weight}
 use Rattle.limbs.proofs.Runs.{none_above, known_parts}
-use Rattle.limbs.proofs.run.bits_in_parts.Goals as goal
+use Rattle.limbs.proofs.run.bits_down.Goals as goal
 
 pub returns-clause-each : goal.returns-clause-each
 returns-clause-each c =
