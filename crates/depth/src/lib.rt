@@ -17,8 +17,9 @@ use sheet::marks::Marks;
 
 mod descent;
 
-// A batch of no more terms is listed in a small list, which takes no time to clear.
+// A batch of no more terms is listed in a list of that size: to clear the largest takes longer than a small sum.
 const FEW: usize = 32;
+const SOME: usize = 128;
 
 // What a sum rounds to, and after how many columns that was settled.
 #[derive(Clone, Copy)]
@@ -37,10 +38,10 @@ pub fn round_sum<B: Batch, G: Grid>(
     requires { length answer.old ≡ 128 }
     ensures { SumRounded (G.Grid.spacing rounding.entry.grid.now) (mode_of rounding.entry.mode) (parts_of (shown marks.now) (B.Batch.terms batch.now)) result (limbs_value answer.new) }
 {
-    if batch.count() <= FEW {
-        round_few(batch, marks, rounding, answer)
-    } else {
-        round_many(batch, marks, rounding, answer)
+    match batch.count() {
+        0..=FEW => round_listed::<B, G, FEW>(batch, marks, rounding, answer),
+        0..=SOME => round_listed::<B, G, SOME>(batch, marks, rounding, answer),
+        _ => round_listed::<B, G, MOST_TERMS>(batch, marks, rounding, answer),
     }
 }
 
@@ -49,35 +50,20 @@ fn columns_one_by_one(width: u32) -> usize {
     if width <= 64 { 8 } else { 0 }
 }
 
-// With a small list.
+// With a list that has room for so many terms. Apart from its caller, which then clears no list but the one that it takes.
 #[inline(never)]
-fn round_few<B: Batch, G: Grid>(
+fn round_listed<B: Batch, G: Grid, const CAP: usize>(
     batch: &B,
     marks: &Marks,
     rounding: Rounding<G>,
     answer: &mut [u32],
 ) -> Option<RoundedSum>
-    requires few { length (B.Batch.terms batch.now) ≤ 32 }
+    requires listed { length (B.Batch.terms batch.now) ≤ CAP }
+    requires memory { CAP ≤ 1024 }
     requires room { length answer.old ≡ 128 }
     ensures { SumRounded (G.Grid.spacing rounding.entry.grid.now) (mode_of rounding.entry.mode) (parts_of (shown marks.now) (B.Batch.terms batch.now)) result (limbs_value answer.new) }
 {
     let singles = columns_one_by_one(rounding.grid.width());
-    let mut terms: CountedTerms<B, FEW> = CountedTerms::new(batch, marks, singles);
-    descend(&mut terms, rounding, answer)
-}
-
-// With a list that has room for every batch. Apart from the other, whose callers then need not clear it.
-#[inline(never)]
-fn round_many<B: Batch, G: Grid>(
-    batch: &B,
-    marks: &Marks,
-    rounding: Rounding<G>,
-    answer: &mut [u32],
-) -> Option<RoundedSum>
-    requires { length answer.old ≡ 128 }
-    ensures { SumRounded (G.Grid.spacing rounding.entry.grid.now) (mode_of rounding.entry.mode) (parts_of (shown marks.now) (B.Batch.terms batch.now)) result (limbs_value answer.new) }
-{
-    let singles = columns_one_by_one(rounding.grid.width());
-    let mut terms: CountedTerms<B, MOST_TERMS> = CountedTerms::new(batch, marks, singles);
+    let mut terms: CountedTerms<B, CAP> = CountedTerms::new(batch, marks, singles);
     descend(&mut terms, rounding, answer)
 }
