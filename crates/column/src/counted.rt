@@ -16,7 +16,7 @@ mod walk;
 mod work;
 
 // They stand at a column, in a run of columns that is added up already; their zones are those of the run. So many columns more as `singles` says are added
-// up one by one, and then long runs.
+// up one by one, and then long runs, as far down as `lowest`, below which no term has a digit.
 #[derive(Drop)]
 pub struct CountedTerms<'b, B: Batch, const CAP: usize> {
     batch: &'b B,
@@ -25,6 +25,7 @@ pub struct CountedTerms<'b, B: Batch, const CAP: usize> {
     zones: Zones,
     run: Run,
     singles: usize,
+    lowest: i32,
     ghost within_run: { run.bottom ≤ℤ column },
     ghost not_above: { column ≤ℤ run.top },
     ghost short_run: { run.top <ℤ (run.bottom +ℤ pos 34) },

@@ -52,11 +52,14 @@ impl<'b, B: Batch, const CAP: usize> CountedTerms<'b, B, CAP> {
         ensures above { first_below (standing result) (columns (listed_parts result)) ≡ first_column (columns (listed_parts result)) }
     {
         let mut terms = ArrayVec::new();
+        let mut lowest = i32::MAX;
         // By number: the interface of a batch, which each kind of batch implements, has no iterator.
         for place in 0..batch.count() {
             let kind = counted_kind(marks.at(place as u32), batch.kind(place));
             if kind.is_regular() {
-                terms.push(counted_term(batch, place, kind == Kind::Negative));
+                let term = counted_term(batch, place, kind == Kind::Negative);
+                lowest = lowest.min(term.last);
+                terms.push(term);
             }
         }
         CountedTerms {
@@ -74,6 +77,7 @@ impl<'b, B: Batch, const CAP: usize> CountedTerms<'b, B, CAP> {
                 totals: [0; MOST_COLUMNS],
             },
             singles,
+            lowest,
         }
     }
 }

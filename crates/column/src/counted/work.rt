@@ -23,12 +23,16 @@ fn count_below(terms: &[CountedTerm], column: i32) -> usize
     terms.iter().filter(|term| term.last < column).count()
 }
 
-// How many columns the next run has.
-fn next_height(singles: usize) -> usize
+// How many columns the next run has down from one: a long run no more than there are down to the lowest.
+fn next_height(singles: usize, top: i32, lowest: i32) -> usize
     ensures some { 0 < result }
     ensures few { result ≤ 34 }
 {
-    if singles > 0 { 1 } else { MOST_COLUMNS }
+    if singles > 0 {
+        return 1;
+    }
+    let left = i64::from(top) - i64::from(lowest) + 1;
+    left.clamp(1, 34) as usize
 }
 
 // The total of one column, of some terms of a batch.
@@ -108,7 +112,7 @@ impl<'b, B: Batch, const CAP: usize> CountedTerms<'b, B, CAP> {
         ensures at { standing self.new ≡ top }
         ensures same { SameColumns (listed_parts self.old) (listed_parts self.new) }
     {
-        let height = next_height(self.singles);
+        let height = next_height(self.singles, top, self.lowest);
         let bottom = top - (height - 1) as i32;
         let zones = go_down(self.terms.as_mut_slice(), self.zones, top, bottom);
         let begun = &self.terms.as_slice()[zones.ended..zones.begun];

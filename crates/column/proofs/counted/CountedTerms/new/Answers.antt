@@ -42,13 +42,13 @@ loop-place-preserved g c =
     elim c.if-is_regular.branch [
       | then-is_regular w ↦
           let all = w.push.new.self.items in
-          let term = w.counted_term.result in
+          let term = w.counted_term-term.result in
           let stands = listed_one ts marks i in_list c.counted_kind-kind.result kind c.loop-place.terms.items all term c.loop-place.invariant.stands
-          (sym c.is_regular.ensures ∙ w.if-is_regular.true) w.counted_term.ensures.place (w.counted_term.ensures.sign ∙ w.eq.ensures ∙ is_below_0 c.counted_kind-kind.result) w.push.ensures.items in
+          (sym c.is_regular.ensures ∙ w.if-is_regular.true) w.counted_term-term.ensures.place (w.counted_term-term.ensures.sign ∙ w.eq.ensures ∙ is_below_0 c.counted_kind-kind.result) w.push.ensures.items in
           rw w.terms-is record {
             stands = stands;
             few = omega (arith, w.push.ensures.len, c.loop-place.invariant.few);
-            spans = rw w.push.ensures.items (All-push (Spanning ts) c.loop-place.terms.items term c.loop-place.invariant.spans w.counted_term.ensures.spans);
+            spans = rw w.push.ensures.items (All-push (Spanning ts) c.loop-place.terms.items term c.loop-place.invariant.spans w.counted_term-term.ensures.spans);
           }
       | else-is_regular w ↦
           let stands = listed_none ts marks i in_list c.counted_kind-kind.result kind c.loop-place.terms.items c.loop-place.invariant.stands (sym c.is_regular.ensures ∙ w.if-is_regular.false) in
