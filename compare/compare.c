@@ -350,8 +350,8 @@ static void all_cases(void)
 
 static void stored_cases(void)
 {
-    singular(3);
-    halfway(0, 3);
+    singular(6);
+    halfway(0, 1);
     random_ties(23, 20, 80, 200);
     random_sums(11, 40, (struct shape){8, 100, 100, 30});
     random_sums(12, 20, (struct shape){8, 100, 100, 1000});

@@ -1,30 +1,15 @@
 -- The next occupied column below a given one, and the first of all.
-use Rattle.std.proofs.Common.{◌≡◌, ◌⊎◌, List, [], ◌∷◌, map, ℤ, pos, ◌-ℤ◌, ◌≤ℤ◌, ◌<ℤ◌, Some, None, Option, subst, arith}
+use Rattle.std.proofs.Common.{◌≡◌, ◌⊎◌, List, [], ◌∷◌, map, ℤ, ◌<ℤ◌, Some, None, Option, subst, arith}
 use borrow.Author.Differences.{ints}
-use Rattle.std.specs.Int.{int_max, int_min}
+use Rattle.std.specs.Int.{int_max}
 use Rattle.std.specs.List.{AllByRecursion, filter_map, cons_option, fold, reduce}
 use Rattle.std.proofs.lemmas.Int.{clamps}
 use Rattle.column.specs.Parts.{Part}
-use Rattle.column.specs.Columns.{Spans, Occupies, Occupied, column_of, columns, Falling, Listed}
+use Rattle.column.specs.Columns.{Occupies, Occupied, columns, Falling, Listed}
 use Rattle.column.specs.Edges.{picked}
-use Rattle.column.specs.Walk.{first_column, first_below, Highest, higher, highest_spanned}
-use Rattle.column.proofs.Listing.{floor_is, columns_fall, columns_occupied, occupied_columns}
+use Rattle.column.specs.Walk.{first_column, first_below, Highest, higher}
+use Rattle.column.proofs.Listing.{columns_fall, columns_occupied, occupied_columns}
 use Rattle.column.proofs.Chain.{in_below}
-
--- ---- the columns that some weights lie in
-module _ (low top below : ℤ) where
-  -- the highest of them, or the one just below the limit
-  abbrev pub candidate : ℤ
-  candidate = int_min (column_of (top -ℤ pos 1)) (below -ℤ pos 1)
-
-  pub none_spanned : candidate <ℤ column_of low → Highest below (Spans low top) None
-  none_spanned h k (a, b) l = omega (arith, ints, clamps, floor_is low, floor_is (top -ℤ pos 1))
-
-  pub some_spanned : (c : ℤ) → c ≡ candidate → column_of low ≤ℤ c → Highest below (Spans low top) (Some c)
-  some_spanned c e h = omega (arith, ints, clamps, floor_is low, floor_is (top -ℤ pos 1))
-
-  pub spanned_is : Highest below (Spans low top) (highest_spanned low top below)
-  spanned_is = grind (arith, ints, none_spanned, some_spanned)
 
 -- ---- the highest of two sorts of columns
 module _ (b : ℤ) where

@@ -1,10 +1,10 @@
 -- Terms brought before others, one after the other.
-use Rattle.std.proofs.Common.{◌≡◌, ◌∙◌, refl, ⊎_elim, ◌⊎◌, ℕ, ◌+◌, ◌<◌, ◌≤◌, List, length, get_or, ℤ, pos, ◌+ℤ◌, ◌≤ℤ◌, ◌<ℤ◌, sym, subst, inl, inr, arith}
+use Rattle.std.proofs.Common.{◌≡◌, ◌∙◌, ⊎_elim, ◌⊎◌, ℕ, ◌+◌, ◌<◌, ◌≤◌, List, length, get_or, ℤ, pos, ◌+ℤ◌, ◌≤ℤ◌, ◌<ℤ◌, sym, subst, inl, inr, arith}
 use borrow.Author.Differences.{ints}
 use Rattle.std.specs.List.{AllWithin, swap}
 use Rattle.std.specs.List.Sorted.{IsPermutation}
 use Rattle.std.proofs.lemmas.List.Edits.{swapped_from_swap}
-use Rattle.std.proofs.lemmas.List.Sorted.{IsPermutation-refl, IsPermutation-trans, IsPermutation-swap, length_permutation}
+use Rattle.std.proofs.lemmas.List.Sorted.{IsPermutation-trans, IsPermutation-swap, length_permutation}
 use Rattle.std.proofs.lemmas.Bool.{cases_eq, cases_lt}
 use Rattle.column.specs.declared.term.CountedTerm.{CountedTerm}
 use Rattle.column.specs.declared.parting.Zones.{Zones}
@@ -21,16 +21,6 @@ pub record PartedAsFar (e : Edge) (k : ℤ) (xs ys : List CountedTerm) (from i a
   pub before : at ≤ i
   pub forward : AllWithin (From e k) ys from at
   pub behind : AllWithin (Below e k h) ys at i
-
-pub parted_none : (e : Edge) (k : ℤ) (xs : List CountedTerm) (from : ℕ) (h : ℤ) → PartedAsFar e k xs xs from from from h
-parted_none e k xs from h = record {
-  permuted = IsPermutation-refl xs;
-  outside = λ j d s. refl;
-  after = omega arith;
-  before = omega arith;
-  forward = λ j d a b. absurd (omega arith);
-  behind = λ j d a b. absurd (omega arith);
-}
 
 module _ (e : Edge) (k : ℤ) (xs ys : List CountedTerm) (from i at : ℕ) (h : ℤ) (w : PartedAsFar e k xs ys from i at h) where
   -- the next stays behind
