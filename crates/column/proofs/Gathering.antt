@@ -3,7 +3,7 @@ use Rattle.std.proofs.Common.{◌≡◌, ℕ, zero, suc, ◌+◌, ◌-◌, ◌^�
 use lib.Signed.{lt_z}
 use borrow.Author.Differences.{ints}
 use Rattle.std.specs.List.{AllByRecursion, AllWithin, filter}
-use Rattle.std.proofs.lemmas.List.{take_more, take-append-drop, length-drop, drop-drop, map-append}
+use Rattle.std.proofs.lemmas.List.{take_more, take-append-drop, length-drop, length-take-le, drop-drop, map-append}
 use Rattle.exact.specs.Integers.{signed}
 use Rattle.batch.specs.Term.{Term, column_weight}
 use Rattle.batch.specs.Lookup.{digit_of_term}
@@ -142,3 +142,15 @@ module _ (ts : List Term) (xs : List CountedTerm) (s : AllByRecursion (Sound ts)
       let all = ap (λ (ps : List Part). reaching_below ps (column_weight j)) three ∙ tally_append t (parts_listed ts (take z.ended xs)) (parts_listed ts begun ++ parts_listed ts waiting) in
       let rest = tally_append t (parts_listed ts begun) (parts_listed ts waiting) in
       omega (arith, e, ended, wait, some, all, rest, length-drop z.begun xs)
+
+  -- where all that have begun end below it, they and those that wait go on there
+  pub zone_below_all : AllByRecursion (λ c. c.last <ℤ j) begun → length xs - z.ended ≡ reaching_below (parts_listed ts xs) (column_weight j)
+  zone_below_all h =
+      let long : length begun ≡ z.begun - z.ended = length-take-le (z.begun - z.ended) (drop z.ended xs) (omega (arith, length-drop z.ended xs, w.within, w.order)) in
+      let all = filter_all begun h in
+      let rest : length xs - z.ended ≡ length begun + (length xs - z.begun) = omega (arith, long, w.within, w.order) in
+      rest ∙ zone_below (length begun) (sym all)
+    where
+      filter_all : (ys : List CountedTerm) → AllByRecursion (λ c. c.last <ℤ j) ys → length (filter (λ c. lt_z c.last j) ys) ≡ length ys
+      filter_all [] h = refl
+      filter_all (y ∷ ys) (h, hs) = ap (λ (b : Bool). length (cond b (y ∷ filter (λ (c : CountedTerm). lt_z c.last j) ys) (filter (λ (c : CountedTerm). lt_z c.last j) ys))) (is_below y.last j h) ∙ ap suc (filter_all ys hs)

@@ -1,8 +1,8 @@
 -- The next occupied column, found among the terms that have not ended.
-use Rattle.std.proofs.Common.{◌≡◌, ℕ, zero, suc, ◌-◌, ◌<◌, ◌≤◌, ◌⊎◌, Bool, cond, true, false, ◌||◌, refl, ◌∙◌, List, [], ◌∷◌, ◌++◌, length, take, drop, ℤ, pos, ◌-ℤ◌, neg_ℤ, ◌≤ℤ◌, ◌<ℤ◌, Some, None, Option, sym, ap, subst, inl, inr, ⊎_elim, arith}
+use Rattle.std.proofs.Common.{◌≡◌, ℕ, zero, suc, ◌-◌, ◌<◌, ◌≤◌, ◌⊎◌, Bool, cond, true, false, ◌||◌, refl, ◌∙◌, List, [], ◌∷◌, ◌++◌, length, take, drop, ℤ, pos, ◌-ℤ◌, neg_ℤ, ◌≤ℤ◌, ◌<ℤ◌, Some, None, Option, sym, ap, subst, inl, inr, ⊎_elim, arith, get_or, ◌+◌}
 use borrow.Author.Differences.{ints}
-use Rattle.std.specs.List.{AllByRecursion, AllWithin, list_any, filter_map, reduce}
-use Rattle.std.proofs.lemmas.List.{take-append-drop, take_all, length-drop, map-append}
+use Rattle.std.specs.List.{All, AllByRecursion, AllWithin, list_any, filter_map, reduce}
+use Rattle.std.proofs.lemmas.List.{take-append-drop, take_all, get_or-take, get_or-drop, length-drop, length-take-le, map-append}
 use Rattle.std.proofs.lemmas.List.Elements.{recursion_from_All}
 use Rattle.batch.specs.Term.{Term, Batchable}
 use Rattle.column.specs.declared.term.CountedTerm.{CountedTerm}
@@ -48,6 +48,25 @@ pub all_within : (P : CountedTerm → Type 0) (e : ℕ) (xs : List CountedTerm) 
 all_within P zero xs l h = tt
 all_within P (suc e) [] l h = absurd (omega arith)
 all_within P (suc e) (x ∷ xs) l h = (h 0 x (omega arith) (omega arith), all_within P e xs (omega arith) (λ j d a b. h (suc j) d (omega arith) (omega arith)))
+
+-- ---- the terms from the place e up to the place b
+module _ (P : CountedTerm → Type 0) (xs : List CountedTerm) (e b : ℕ) (order : e ≤ b) (within : b ≤ length xs) where
+  zone_length : length (take (b - e) (drop e xs)) ≡ b - e
+  zone_length = length-take-le (b - e) (drop e xs) (omega (arith, length-drop e xs))
+
+  zone_read : (j : ℕ) (d : CountedTerm) → j < b - e → get_or (take (b - e) (drop e xs)) j d ≡ get_or xs (e + j) d
+  zone_read j d l = get_or-take (b - e) (drop e xs) j d l ∙ get_or-drop e xs j d
+
+  pub zone_all : AllWithin P xs e b → AllByRecursion P (take (b - e) (drop e xs))
+  zone_all h =
+      recursion_from_All P (take (b - e) (drop e xs))
+      (λ j d l. let u : j < b - e = omega (arith, zone_length) in subst P (sym (zone_read j d u)) (h (e + j) d (omega arith) (omega arith)))
+
+  pub zone_within : All P (take (b - e) (drop e xs)) → AllWithin P xs e b
+  zone_within h j d l u =
+      let i : j - e < b - e = omega arith in
+      let at : e + (j - e) ≡ j = omega arith in
+      subst P (zone_read (j - e) d i ∙ ap (λ (n : ℕ). get_or xs n d) at) (h (j - e) d (omega (arith, zone_length)))
 
 -- ---- terms with their ends, none of them 0
 module _ (ts : List Term) where

@@ -1,6 +1,6 @@
 // Terms sorted by where their columns begin or end, as far as a walk down the columns asks for it.
-ghost use Rattle.std.specs.Prelude.{◌≡◌, ◌≤◌, length, ℤ, pos, ◌<ℤ◌};
-ghost use Rattle.std.specs.List.{AllWithin};
+ghost use Rattle.std.specs.Prelude.{◌≡◌, ◌≤◌, length, ℤ, pos, ◌≤ℤ◌, ◌<ℤ◌};
+ghost use Rattle.std.specs.List.{All, AllWithin};
 ghost use Rattle.std.specs.List.Sorted.{IsPermutation};
 ghost use Rattle.column.specs.Edges.{From, Below, SameOutside};
 ghost use Rattle.column.specs.Zones.{Zoned};
@@ -55,6 +55,17 @@ pub fn bring_forward(
         }
     }
     parted
+}
+
+// A column at or above the last of each term.
+pub fn highest_last(terms: &[CountedTerm]) -> i32
+    ensures { All (λ c. c.last ≤ℤ result) terms.now }
+{
+    let mut highest = i32::MIN;
+    for term in terms {
+        highest = highest.max(term.last);
+    }
+    highest
 }
 
 // Goes down to the run of columns from `top` to `bottom`. The terms that wait are looked at only where one of them may reach it.

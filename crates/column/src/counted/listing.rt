@@ -78,6 +78,7 @@ impl<'b, B: Batch, const CAP: usize> CountedTerms<'b, B, CAP> {
             },
             singles,
             lowest,
+            highest_last: i32::MIN,
         }
     }
 }

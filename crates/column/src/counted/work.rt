@@ -11,7 +11,7 @@ ghost use Rattle.column.specs.Walk.{Highest};
 ghost use Rattle.column.specs.Zones.{Zoned};
 
 use crate::counted::CountedTerms;
-use crate::parting::go_down;
+use crate::parting::{go_down, highest_last};
 use crate::run::{MOST_COLUMNS, Run, add_signed, signed};
 use crate::term::CountedTerm;
 use batch::Batch;
@@ -122,6 +122,7 @@ impl<'b, B: Batch, const CAP: usize> CountedTerms<'b, B, CAP> {
             bottom,
             totals,
         };
+        self.highest_last = highest_last(begun);
         self.zones = zones;
         self.column = top;
         self.singles = self.singles.saturating_sub(1);
@@ -135,10 +136,13 @@ impl<'b, B: Batch, const CAP: usize> CountedTerms<'b, B, CAP> {
         self.run.totals[(self.run.top - self.column) as usize]
     }
 
-    // How many terms go on below it. Those that have ended do not, and all those that wait do.
+    // How many terms go on below it. Those that have ended do not, and all those that wait do; most often so do all that have begun.
     fn reaching(&self) -> usize
         ensures { result ≡ reaching_below (listed_parts self.now) (column_weight (standing self.now)) }
     {
+        if self.highest_last < self.column {
+            return self.terms.len() - self.zones.ended;
+        }
         let begun = &self.terms.as_slice()[self.zones.ended..self.zones.begun];
         count_below(begun, self.column) + (self.terms.len() - self.zones.begun)
     }

@@ -1,6 +1,7 @@
 -- The terms change their places only, and the totals are those of the terms that have begun.
-use Rattle.std.proofs.Common.{◌≡◌, ◌-◌, ◌<◌, List, take, drop, ℤ, pos, ◌-ℤ◌, arith, sym, ap₂, ◌∙◌, subst, w32, to_z, of_z}
+use Rattle.std.proofs.Common.{◌≡◌, ◌-◌, ◌<◌, List, take, drop, ℤ, pos, ◌-ℤ◌, arith, sym, ap₂, ◌∙◌, subst, w32, to_z, of_z, ◌≤ℤ◌}
 use borrow.Author.Differences.{ints}
+use Rattle.std.specs.List.{All}
 use Rattle.std.proofs.lemmas.Int.{to_z-of_z}
 use Rattle.std.proofs.lemmas.List.Sorted.{length_permutation}
 use Rattle.std.specs.List.Sorted.{IsPermutation}
@@ -10,7 +11,7 @@ use Rattle.column.specs.CountedTerms.{SameColumns}
 use Rattle.column.specs.Columns.{column_total}
 use Rattle.column.specs.Listed.{parts_listed}
 use Rattle.column.proofs.Gathering.{zone_total}
-use Rattle.column.proofs.NextColumn.{sound_listed}
+use Rattle.column.proofs.NextColumn.{sound_listed, zone_within}
 use Rattle.column.proofs.Permuted.{listed_columns, spans_permuted, regular_permuted, refilled}
 use Rattle.column.proofs.counted.CountedTerms.add_up.Goals as goal
 
@@ -40,6 +41,11 @@ invariant_of-self g c =
       regular = regular;
       spans = spans;
       zoned = zoned;
+      ends =
+          let r = c.highest_last-self.result in
+          let kept : to_z w32 (of_z w32 r) ≡ r = omega (arith, ints, c.highest_last-self.type_inv) in
+          let all = subst (λ (zs : List CountedTerm). All (λ y. y.last ≤ℤ r) (take (z.begun - z.ended) (drop z.ended zs))) (c.as_slice.ensures.value ∙ back) c.highest_last-self.ensures in
+          rw kept (zone_within (λ y. y.last ≤ℤ r) ys z.ended z.begun zoned.order zoned.within all);
       totalled = λ k from upto.
           let j = gap top k in
           let in_run : j < height = omega (arith, ints, low, high, from, upto, few.some) in

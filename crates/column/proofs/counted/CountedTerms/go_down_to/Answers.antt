@@ -21,5 +21,6 @@ invariant_of-self g c =
       regular = x.regular;
       spans = x.spans;
       zoned = zoned_lower x.terms.items x.zones x.column k x.run.bottom lower x.zoned;
+      ends = x.ends;
       totalled = x.totalled;
     }

@@ -75,6 +75,7 @@ invariant_of-result g c =
         passed = λ j d l u. absurd (omega arith);
         waiting = λ j d l u. let near = first_near ts limited _ (c.loop-place.invariant.spans j d u) in (omega (arith, ints, near), omega (arith, ints, near));
       };
+      ends = λ j d l u. absurd (omega arith);
       totalled = λ k from upto. zeros 34 (gap (pos 2147483647) k) ∙ sym (none_high ts limited xs k (omega (arith, ints, from)));
     }
 
