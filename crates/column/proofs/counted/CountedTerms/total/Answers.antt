@@ -1,5 +1,5 @@
 -- The column lies in the run, which holds its total.
-use Rattle.std.proofs.Common.{◌≡◌, ℕ, ◌^◌, ◌<◌, ℤ, ◌-ℤ◌, nat_abs, unsigned_abs, sym, ap, ◌∙◌, subst, arith, rules, w32, w64, SFits, to_z, of_z}
+use Rattle.std.proofs.Common.{◌≡◌, ℕ, ◌^◌, ◌<◌, ℤ, ◌-ℤ◌, nat_abs, unsigned_abs, sym, ap, ◌∙◌, subst, arith, rules, w32, w64, SFits, to_z, of_z, pos}
 use borrow.Author.Differences.{ints}
 use Rattle.std.proofs.lemmas.Int.{to_z-of_z}
 use Rattle.std.proofs.lemmas.List.{length-map}
@@ -10,6 +10,20 @@ use Rattle.column.specs.Listed.{listed_part}
 use Rattle.column.specs.Runs.{total_at}
 use Rattle.column.proofs.Gathering.{total_small}
 use Rattle.column.proofs.counted.CountedTerms.total.Goals as goal
+
+pub overflow_cast-result : goal.overflow_cast-result
+overflow_cast-result g c =
+    let x = c.args.self.now in
+    let top : SFits w32 x.run.top = search rules in
+    let here : SFits w32 x.column = search rules in
+    let t = to_z-of_z w32 x.run.top top in
+    let k = to_z-of_z w32 x.column here in
+    let within = x.within_run in
+    let above = x.not_above in
+    let short = x.short_run in
+    let down : to_z w32 (of_z w32 (to_z w32 (of_z w32 x.run.top) -ℤ to_z w32 (of_z w32 x.column))) ≡ pos (gap x.run.top x.column) = omega (arith, ints, t, k) in
+    let few : gap x.run.top x.column < 34 = omega (arith, ints) in
+    rw down (search rules)
 
 pub returns-clause-is : goal.returns-clause-is
 returns-clause-is g c =
