@@ -19,6 +19,7 @@ mod descent;
 
 // A batch of no more terms is listed in a list of that size: to clear the largest takes longer than a small sum.
 const FEW: usize = 32;
+
 const SOME: usize = 128;
 
 // What a sum rounds to, and after how many columns that was settled.
