@@ -1,0 +1,12 @@
+pub mod Refusals
+pub mod ByPlaces
+pub mod Signs
+pub mod Runs
+pub mod Keywords
+pub mod Naturals
+pub mod Integers
+pub mod Floors
+pub mod HexDigits
+pub mod LimbTexts
+pub mod WordBytes
+pub mod HeldLimbs

@@ -1,0 +1,4 @@
+pub mod Words
+pub mod Checking
+pub mod Laws
+pub mod Held
