@@ -1,0 +1,2 @@
+pub mod AnyGrids
+pub mod Asked
