@@ -1,0 +1,4 @@
+pub mod Writes
+pub mod Joined
+pub mod HexDigits
+pub mod Lengths
