@@ -1,0 +1,9 @@
+pub mod Steps
+pub mod Past
+pub mod Stuck
+pub mod Ends
+pub mod Lengths
+pub mod SheetCalls
+pub mod Standings
+pub mod Limits
+pub mod Loop
