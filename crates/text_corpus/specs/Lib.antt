@@ -1,0 +1,2 @@
+pub mod Corpus
+pub mod Views
