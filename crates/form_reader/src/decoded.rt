@@ -1,7 +1,7 @@
 // The forms that are read, their fields decoded. What stands as it was read borrows the line.
 use fields::Limbs;
 
-// A term other than 0, infinity and NaN; the limbs of its significand, the least significant first.
+// A regular term, with the limbs of its significand, the least significant first.
 #[derive(Clone, Copy)]
 pub struct Term<'a> {
     pub negative: bool,
@@ -20,7 +20,7 @@ pub enum Form<'a> {
         negative: bool,
     },
     Term(Term<'a>),
-    // the letter is any run: the sheet knows which are marks
+    // the letter is any run, also one that no mark has
     Mark {
         place: u64,
         letter: &'a [u8],
@@ -28,7 +28,7 @@ pub enum Form<'a> {
     Back,
     Set,
     Reopen,
-    // an ask on a free grid; of no floor the grid goes down without end
+    // an ask on a grid of this width, free without a floor
     Ask {
         width: u64,
         floor: Option<i64>,

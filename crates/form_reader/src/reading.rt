@@ -118,7 +118,7 @@ macro_rules! missed {
     };
 }
 
-// An ask on a free grid, or on one that has a name.
+// An ask on a grid of a width, or on one that has a name.
 fn any_ask(line: Lexer<'_>) -> Result<Form<'_>, Stuck>
     ensures { told form_of result ≡ any_ask_at (left_of line.entry) }
 {
