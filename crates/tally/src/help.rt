@@ -1,5 +1,5 @@
-// The text of `tally --help`.
-use std::{env, io};
+// The text of `tally --help`, and what asks for it.
+ghost use Rattle.std.specs.Prelude.{◌≡◌, ◌↔◌, IsTrue, codes};
 
 pub const HELP: &str = "\
 tally: sums terms of any precision exactly, and rounds each sum once.
@@ -31,11 +31,9 @@ S is + or -. One space parts fields; each line ends with a newline.
 A text has at most 49152 bytes. See tally(1) and tally(5).
 ";
 
-// Whether the first argument is --help.
-pub fn asks_for_help(rt: &HostRuntime) -> io::Result<bool> {
-    let mut arguments = env::args(rt)?.skip(1);
-    match arguments.next() {
-        Some(argument) => Ok(argument.as_str() == "--help"),
-        None => Ok(false),
-    }
+// Whether an argument asks for it.
+pub fn asks_for_help(argument: &str) -> bool
+    ensures { IsTrue result ↔ (argument.now ≡ codes "--help") }
+{
+    argument == "--help"
 }

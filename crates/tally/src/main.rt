@@ -6,6 +6,7 @@ mod help;
 
 use crate::answering::answered;
 use crate::help::{HELP, asks_for_help};
+use std::env;
 use std::io::{self, Read, Write};
 use text_call::LONGEST_TEXT;
 
@@ -19,8 +20,14 @@ fn answer_input(rt: &HostRuntime) -> io::Result<()> {
     rt.stdout().write_all(&answer)
 }
 
+// Whether the first argument asks for help.
+fn is_help_wanted(rt: &HostRuntime) -> io::Result<bool> {
+    let first = env::args(rt)?.nth(1);
+    Ok(first.is_some_and(|argument| asks_for_help(argument.as_str())))
+}
+
 fn main(rt: HostRuntime) -> io::Result<()> {
-    if asks_for_help(&rt)? {
+    if is_help_wanted(&rt)? {
         return print!(rt; "{HELP}");
     }
     answer_input(&rt)
