@@ -1,6 +1,7 @@
 -- The list of the counted terms grows with each place as the parts do.
-use Rattle.std.proofs.Common.{◌≡◌, ℕ, suc, ◌+◌, ◌<◌, Bool, true, false, ◌==◌, List, [], ◌∷◌, ◌++◌, map, length, get_or, take, pos, sym, ap, ◌∙◌, ap₂, append_assoc, append-nil, arith}
+use Rattle.std.proofs.Common.{◌≡◌, ℕ, suc, ◌+◌, ◌<◌, Bool, true, false, ◌==◌, List, [], ◌∷◌, ◌++◌, map, length, get_or, take, pos, sym, refl, ap, ◌∙◌, ap₂, append_assoc, append-nil, arith}
 use borrow.Author.Differences.{ints}
+use denote.Enum.Bare.{sameb}
 use Rattle.std.specs.List.{AllByRecursion}
 use Rattle.std.proofs.ByRecursion.{All-map, All-append}
 use Rattle.std.proofs.lemmas.List.{take_more, get_or-map, map-append, length-take-le}
@@ -8,8 +9,9 @@ use Rattle.exact.proofs.BitLength.{pos_of_size}
 use Rattle.batch.specs.Term.{Term, not_a_number, Limited}
 use Rattle.batch.specs.TermKinds.{kind_of, kind_number, kind_is_regular}
 use Rattle.batch.specs.Lookup.{kind_of_term}
+use Rattle.batch.specs.contracts.kind.Kind.{the_type}
 use Rattle.batch.specs.declared.kind.Kind.{Kind}
-use Rattle.batch.specs.declared.kind.Kind.TheVariants.{Absent}
+use Rattle.batch.specs.declared.kind.Kind.TheVariants.{NotANumber, PositiveInfinity, NegativeInfinity, PositiveZero, NegativeZero, Positive, Negative, Absent}
 use Rattle.sheet.specs.declared.mark.Mark.{Mark}
 use Rattle.column.specs.declared.term.CountedTerm.{CountedTerm}
 use Rattle.column.specs.Parts.{Part, part, Regular}
@@ -21,6 +23,19 @@ use Rattle.column.specs.Listed.{signed_part, listed_part, parts_listed}
 -- is this the kind of the numbers below 0?
 abbrev pub below_0 : Kind → Bool
 below_0 q = kind_number q == 6
+
+-- `==` with that kind
+pub is_below_0 : (q : Kind) → sameb the_type q Negative ≡ below_0 q
+is_below_0 = elim [
+  | NotANumber ↦ refl
+  | PositiveInfinity ↦ refl
+  | NegativeInfinity ↦ refl
+  | PositiveZero ↦ refl
+  | NegativeZero ↦ refl
+  | Positive ↦ refl
+  | Negative ↦ refl
+  | Absent ↦ refl
+]
 
 counted_some : (k : Mark) (t : Term) → kind_is_regular (counted_kind k (kind_of t)) ≡ true → counted_part k t ≡ signed_part (below_0 (counted_kind k (kind_of t))) t ∷ []
 counted_some k t h = grind (arith, ints)

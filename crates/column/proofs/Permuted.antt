@@ -12,7 +12,7 @@ use Rattle.exact.specs.Integers.{signed}
 use Rattle.batch.specs.Term.{Term, column_weight}
 use Rattle.column.specs.Parts.{Part, low, top, signed_sum, tally}
 use Rattle.column.specs.Columns.{digit, Occupies, Occupied, columns, Falling, Listed}
-use Rattle.column.specs.CountedTerms.{SameColumns}
+use Rattle.column.specs.ColumnCursor.{SameColumns}
 use Rattle.column.specs.Edges.{Spanning, SpansListed}
 use Rattle.column.specs.Listed.{listed_part, parts_listed, RegularListed}
 use Rattle.column.specs.declared.term.CountedTerm.{CountedTerm}

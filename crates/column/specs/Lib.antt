@@ -10,4 +10,4 @@ pub mod Listed
 pub mod Edges
 pub mod Zones
 pub mod Runs
-pub mod CountedTerms
+pub mod ColumnCursor

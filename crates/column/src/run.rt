@@ -1,7 +1,12 @@
-// The totals of a run of columns, which are added up term by term.
+// The totals of columns, which are added up term by term.
 ghost use Rattle.std.specs.Prelude.{◌≡◌, ℕ, ◌^◌, ◌<◌, ◌≤◌, length, slice_index, ℤ, pos, ◌+ℤ◌, ◌-ℤ◌, ◌≤ℤ◌, unsigned_abs};
 ghost use Rattle.exact.specs.Integers.{signed};
+ghost use Rattle.column.specs.Columns.{column_total};
+ghost use Rattle.column.specs.Listed.{parts_listed};
 ghost use Rattle.column.specs.Runs.{total_at};
+
+use crate::term::CountedTerm;
+use batch::Batch;
 
 // How many columns a run has at most: as many as the widest answers of 1,024 bits take.
 pub const MOST_COLUMNS: usize = 34;
@@ -20,6 +25,18 @@ pub fn signed(negative: bool, digit: u32) -> i64
 {
     let magnitude = i64::from(digit);
     if negative { -magnitude } else { magnitude }
+}
+
+// The total of one column, of some terms of a batch.
+pub fn total_of<B: Batch>(batch: &B, terms: &[CountedTerm], column: i32) -> i64
+    requires { length terms.now ≤ 1024 }
+    ensures { result ≡ column_total (parts_listed (B.Batch.terms batch.now) terms.now) column }
+{
+    let mut total: i64 = 0;
+    for &term in terms {
+        total += signed(term.negative, batch.digit(usize::from(term.place), column));
+    }
+    total
 }
 
 // Adds a term's digits to the totals of their columns, with the sign that the term counts with.

@@ -1,6 +1,12 @@
 // A term that counts.
-ghost use Rattle.std.specs.Prelude.{◌≡◌, true, ◌<◌, int_lt, int_le};
-ghost use Rattle.column.specs.Edges.{edge_column, occupies_next, highest_below};
+ghost use Rattle.std.specs.Prelude.{◌≡◌, true, ◌<◌, ◌≤◌, int_lt, int_le, unsigned_abs};
+ghost use Rattle.column.specs.Columns.{column_of};
+ghost use Rattle.column.specs.Edges.{edge_column, occupies_next, highest_below, Spanning};
+
+use batch::Batch;
+
+// A column has 2^5 weights.
+pub const COLUMN_BITS: u32 = 5;
 
 // Its place in the batch, the sign that it counts with, and the columns that it occupies: from the first, which is the highest, down to the last.
 // The place is a number: a batch has no slice to borrow a term from.
@@ -17,6 +23,29 @@ pub struct CountedTerm {
 pub enum Edge {
     First,
     Last,
+}
+
+// The column that a weight lies in.
+fn column_of(weight: i64) -> i32
+    requires few { unsigned_abs weight ≤ 2000000000 }
+    ensures { result ≡ column_of weight }
+{
+    (weight >> COLUMN_BITS) as i32
+}
+
+// The term at a place of a batch, with the sign that it counts with.
+pub fn counted_term<B: Batch>(batch: &B, place: usize, negative: bool) -> CountedTerm
+    requires { place < 1024 }
+    ensures place { result.place ≡ place }
+    ensures sign { result.negative ≡ negative }
+    ensures spans { Spanning (B.Batch.terms batch.now) result }
+{
+    CountedTerm {
+        place: place as u16,
+        negative,
+        first: column_of(i64::from(batch.top(place)) - 1),
+        last: column_of(i64::from(batch.low(place))),
+    }
 }
 
 impl CountedTerm {

@@ -6,10 +6,10 @@ use Rattle.grid.specs.Rounding.{Mode}
 use Rattle.batch.specs.Term.{column_weight}
 use Rattle.batch.specs.declared.interface.Batch.{Ghosts}
 use Rattle.ends.specs.declared.rounded_end.RoundedEnd.{RoundedEnd}
-use Rattle.column.specs.declared.counted.CountedTerms.{CountedTerms}
+use Rattle.column.specs.declared.cursor.ColumnCursor.{ColumnCursor}
 use Rattle.column.specs.Parts.{Part}
 use Rattle.column.specs.Columns.{columns, column_total, Occupied, Listed}
-use Rattle.column.specs.CountedTerms.{listed_parts, standing, SameColumns}
+use Rattle.column.specs.ColumnCursor.{listed_parts, standing, SameColumns}
 use Rattle.column.specs.Ends.{reaching_below}
 use Rattle.column.specs.Walk.{first_column, first_below, Highest}
 use Rattle.column.specs.Claims.{StartsWith, GoesOnWith}
@@ -52,12 +52,12 @@ pub same_trans : (ps qs rs : List Part) → SameColumns ps qs → SameColumns qs
 same_trans ps qs rs a b = record { occupied = b.occupied ∙ a.occupied; totals = λ k. b.totals k ∙ a.totals k; reaching = λ w. b.reaching w ∙ a.reaching w }
 
 -- before a turn the descent s stands at the column of the terms ds, which have the columns of the parts ps
-pub record Turn {B : Type 0} {CAP : ℕ} {G : Ghosts B} (u : ℤ → ℤ) (m : Mode) (ps : List Part) (ds : CountedTerms B CAP G) (s : Descent) : Type 0 where
+pub record Turn {B : Type 0} {CAP : ℕ} {G : Ghosts B} (u : ℤ → ℤ) (m : Mode) (ps : List Part) (ds : ColumnCursor B CAP G) (s : Descent) : Type 0 where
   pub stands : Stands u m ps s
   pub same : SameColumns ps (listed_parts ds)
   pub there : standing ds ≡ s.column
 
-module _ {B : Type 0} {CAP : ℕ} {G : Ghosts B} (cs : CountedTerms B CAP G) (u : ℤ → ℤ) (m : Mode) where
+module _ {B : Type 0} {CAP : ℕ} {G : Ghosts B} (cs : ColumnCursor B CAP G) (u : ℤ → ℤ) (m : Mode) where
   abbrev parts : List Part
   parts = listed_parts cs
 
@@ -75,7 +75,7 @@ module _ {B : Type 0} {CAP : ℕ} {G : Ghosts B} (cs : CountedTerms B CAP G) (u 
       begun_stands u m parts cs.regular near (column_passed c) (total_passed t) n s (ap Some at ∙ first)
       (subst (StartsWith parts (column_passed c)) (sym (small_passed t small)) starts) reach b
 
-  module _ (ds : CountedTerms B CAP G) (s : Descent) (turn : Turn u m parts ds s) where
+  module _ (ds : ColumnCursor B CAP G) (s : Descent) (turn : Turn u m parts ds s) where
     abbrev st : Stands u m parts s
     st = turn.stands
 
@@ -118,7 +118,7 @@ module _ {B : Type 0} {CAP : ℕ} {G : Ghosts B} (cs : CountedTerms B CAP G) (u 
         pub less_left : (q : Descent) → q.column ≡ column_passed d → left q < left s
         less_left q e = fewer_left u m parts cs.regular near s st s.column refl below found highest undecided (column_passed d) next_is q e
 
-        pub goes_on : (es : CountedTerms B CAP G) (t : ℤ) (n : ℕ) (q : Descent) → nat_abs t < 2 ^ 42 → t ≡ column_total (listed_parts ds) (column_passed d)
+        pub goes_on : (es : ColumnCursor B CAP G) (t : ℤ) (n : ℕ) (q : Descent) → nat_abs t < 2 ^ 42 → t ≡ column_total (listed_parts ds) (column_passed d)
             → n ≡ reaching_below (listed_parts ds) (column_weight (column_passed d)) → SameColumns (listed_parts ds) (listed_parts es) → standing es ≡ column_passed d
             → GoneOn s (total_passed t) n (column_passed d) q → Turn u m parts es q
         goes_on es t n q small total reach same there g =

@@ -3,7 +3,7 @@ ghost use Rattle.std.specs.Prelude.{◌≡◌, ◌≤◌, length, unsigned_abs};
 ghost use Rattle.exact.specs.Limbs.{limbs_value};
 ghost use Rattle.grid.specs.Modes.{mode_of};
 ghost use Rattle.column.specs.Columns.{columns};
-ghost use Rattle.column.specs.CountedTerms.{listed_parts, standing};
+ghost use Rattle.column.specs.ColumnCursor.{listed_parts, standing};
 ghost use Rattle.column.specs.Walk.{first_column, first_below};
 ghost use Rattle.partial_sum.specs.Limits.{most_total};
 ghost use Rattle.partial_sum.specs.Holding.{Absorbs};
@@ -12,7 +12,7 @@ ghost use Rattle.depth.specs.Descending.{Begun, GoneOn};
 
 use crate::RoundedSum;
 use batch::Batch;
-use column::CountedTerms;
+use column::ColumnCursor;
 use grid::{Grid, Rounding};
 use partial_sum::{Below, PartialSum};
 
@@ -54,7 +54,7 @@ impl Descent {
 
 // Goes down from the first column until the two ends round alike; nothing where there is no column. Who asks has terms that stand above all columns.
 pub fn descend<B: Batch, G: Grid, const CAP: usize>(
-    terms: &mut CountedTerms<B, CAP>,
+    terms: &mut ColumnCursor<B, CAP>,
     rounding: Rounding<G>,
     answer: &mut [u32],
 ) -> Option<RoundedSum>

@@ -10,7 +10,7 @@ ghost use Rattle.depth.specs.Rounded.{SumRounded};
 
 use crate::descent::descend;
 use batch::{Batch, MOST_TERMS};
-use column::CountedTerms;
+use column::ColumnCursor;
 use ends::RoundedEnd;
 use grid::{Grid, Rounding};
 use sheet::marks::Marks;
@@ -65,6 +65,6 @@ fn round_listed<B: Batch, G: Grid, const CAP: usize>(
     ensures { SumRounded (G.Grid.spacing rounding.entry.grid.now) (mode_of rounding.entry.mode) (parts_of (shown marks.now) (B.Batch.terms batch.now)) result (limbs_value answer.new) }
 {
     let singles = columns_one_by_one(rounding.grid.width());
-    let mut terms: CountedTerms<B, CAP> = CountedTerms::new(batch, marks, singles);
+    let mut terms: ColumnCursor<B, CAP> = ColumnCursor::new(batch, marks, singles);
     descend(&mut terms, rounding, answer)
 }

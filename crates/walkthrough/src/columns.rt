@@ -1,7 +1,7 @@
 // The columns of a sum with a wide gap, from the top down: what each adds, and the two ends between which the sum lies.
 
 use batch::{Batch, MOST_TERMS};
-use column::CountedTerms;
+use column::ColumnCursor;
 use list_batch::{ListBatch, Scaled};
 use sheet::sheet::OpenSheet;
 use std::io;
@@ -31,7 +31,7 @@ fn show(
 // The terms go down with each column.
 fn down<B: Batch>(
     rt: &impl Print,
-    counted: &mut CountedTerms<'_, B, MOST_TERMS>,
+    counted: &mut ColumnCursor<'_, B, MOST_TERMS>,
 ) -> io::Result<()> {
     let mut here = counted.next_column();
     while let Some(column) = here {
@@ -51,7 +51,7 @@ pub fn walk(rt: &impl Print) -> io::Result<()> {
     let _ = sheet.mark(1, 1);
     let set = sheet.set();
     match ListBatch::open(&records) {
-        Ok(opened) => down(rt, &mut CountedTerms::new(&opened, set.marks(), 1)),
+        Ok(opened) => down(rt, &mut ColumnCursor::new(&opened, set.marks(), 1)),
         Err(_) => println!(rt; "  refused"),
     }
 }

@@ -2,7 +2,7 @@
 use Rattle.std.proofs.Common.{rules, ◌≡◌, Some, sym, subst, ◌∙◌, ℤ, arith}
 use Rattle.exact.specs.Limbs.{limbs_value}
 use Rattle.grid.specs.Modes.{mode_of}
-use Rattle.column.specs.CountedTerms.{listed_parts, standing}
+use Rattle.column.specs.ColumnCursor.{listed_parts, standing}
 use Rattle.column.specs.Columns.{columns, Occupied}
 use Rattle.column.specs.Walk.{first_column, Highest}
 use Rattle.depth.proofs.Descending.{no_part}

@@ -1,6 +1,6 @@
 -- Before each turn the descent stands at the column of the terms, and each turn leaves fewer below.
 use Rattle.grid.specs.Modes.{mode_of}
-use Rattle.column.specs.CountedTerms.{listed_parts}
+use Rattle.column.specs.ColumnCursor.{listed_parts}
 use Rattle.depth.proofs.Descending.{left}
 use Rattle.depth.proofs.Turns.{Turn}
 use Rattle.depth.proofs.descent.descend.Given as goal

@@ -2,7 +2,7 @@
 use Rattle.std.proofs.Common.{rules, ℤ, ◌<◌, Some, Option, sym, ap, ◌∙◌, subst, w32}
 use Rattle.std.proofs.lemmas.Int.{to_z-of_z}
 use Rattle.column.specs.Columns.{Occupied}
-use Rattle.column.specs.CountedTerms.{listed_parts, standing}
+use Rattle.column.specs.ColumnCursor.{listed_parts, standing}
 use Rattle.column.specs.Walk.{Highest}
 use Rattle.walkthrough.proofs.Heights.{height, lower}
 use Rattle.walkthrough.proofs.columns.down.Goals as goal

@@ -1,6 +1,6 @@
 -- Each next column is the highest below the one at which the terms stand, and lies lower.
 use Rattle.column.specs.Columns.{Occupied}
-use Rattle.column.specs.CountedTerms.{listed_parts, standing}
+use Rattle.column.specs.ColumnCursor.{listed_parts, standing}
 use Rattle.column.specs.Walk.{Highest}
 use Rattle.walkthrough.proofs.Heights.{height}
 use Rattle.walkthrough.proofs.columns.down.Given as goal
