@@ -36,6 +36,15 @@ tally_append : (t : Part → Bool) (ps qs : List Part) → tally t (ps ++ qs) �
 tally_append t [] qs = omega arith
 tally_append t (p ∷ ps) qs = let i = tally_append t ps qs in omega arith
 
+-- how many pass a test, listed or counted
+pub tally_filter : (t : Part → Bool) (f : CountedTerm → Part) (ys : List CountedTerm) → length (filter (λ y. t (f y)) ys) ≡ tally t (map f ys)
+tally_filter t f [] = refl
+tally_filter t f (y ∷ ys) = one (t (f y)) (filter (λ (c : CountedTerm). t (f c)) ys) ∙ ap (λ (n : ℕ). cond (t (f y)) 1 0 + n) (tally_filter t f ys)
+  where
+    one : (b : Bool) (cs : List CountedTerm) → length (cond b (y ∷ cs) cs) ≡ cond b 1 0 + length cs
+    one true cs = omega arith
+    one false cs = omega arith
+
 is_below : (a b : ℤ) → a <ℤ b → lt_z a b ≡ true
 is_below a b h = grind (arith, ints)
 

@@ -19,3 +19,4 @@ pub mod Nearness
 pub mod Permuted
 pub mod NextColumn
 pub mod RunTotals
+pub mod SpannedColumns

@@ -10,4 +10,5 @@ pub mod Listed
 pub mod Edges
 pub mod Zones
 pub mod Runs
+pub mod CountedTerms
 pub mod ColumnCursor

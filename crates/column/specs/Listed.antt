@@ -1,10 +1,11 @@
 -- What a term that counts stands for.
-use Rattle.std.specs.Prelude.{◌<◌, Bool, List, map, pos, slice_index_or}
+use Rattle.std.specs.Prelude.{◌<◌, Bool, List, map, ℤ, pos, Option, slice_index_or}
 use Rattle.std.specs.Coded.{le_prop}
 use Rattle.std.specs.List.{AllByRecursion-prop}
 use Rattle.batch.specs.Term.{Term, not_a_number, infinite, signed_zero, regular}
 use Rattle.column.specs.declared.term.CountedTerm.{CountedTerm}
-use Rattle.column.specs.Parts.{Part, part, Regular}
+use Rattle.column.specs.Parts.{Part, part, low, top, Regular}
+use Rattle.column.specs.Walk.{highest_spanned}
 
 -- a term with another sign as a part; a part of 0 where the term is not regular
 abbrev pub signed_part : Bool → Term → Part
@@ -27,3 +28,7 @@ RegularListed ts cs = Regular (parts_listed ts cs)
 
 pub RegularListed-prop : (ts : List Term) (cs : List CountedTerm) → IsProp (RegularListed ts cs)
 RegularListed-prop ts cs = AllByRecursion-prop (λ (p : Part). 0 < p.significand) (λ p. le_prop) (parts_listed ts cs)
+
+-- the highest column below the column b that a listed term occupies, if there is one
+abbrev pub highest_occupied : List Term → ℤ → CountedTerm → Option ℤ
+highest_occupied ts b c = highest_spanned (low (listed_part ts c)) (top (listed_part ts c)) b

@@ -1,6 +1,7 @@
 -- The way down the occupied columns: the first, and the next below a given one.
-use Rattle.std.specs.Prelude.{cond, List, [], ◌∷◌, ℤ, ◌≤ℤ◌, ◌<ℤ◌, Some, None, Option, int_lt}
-use Rattle.std.specs.Int.{int_max}
+use Rattle.std.specs.Prelude.{cond, List, [], ◌∷◌, ℤ, pos, ◌-ℤ◌, ◌≤ℤ◌, ◌<ℤ◌, Some, None, Option, int_lt}
+use Rattle.std.specs.Int.{int_max, int_min}
+use Rattle.column.specs.Columns.{column_of}
 
 -- the first of a list of columns, if there is one
 abbrev pub first_column : List ℤ → Option ℤ
@@ -22,3 +23,7 @@ abbrev pub higher : Option ℤ → Option ℤ → Option ℤ
 higher None o = o
 higher (Some c) None = Some c
 higher (Some c) (Some d) = Some (int_max c d)
+
+-- the highest column below the column b that the weights from l up to t lie in, if there is one
+abbrev pub highest_spanned : ℤ → ℤ → ℤ → Option ℤ
+highest_spanned l t b = cond (int_lt (int_min (column_of (t -ℤ pos 1)) (b -ℤ pos 1)) (column_of l)) None (Some (int_min (column_of (t -ℤ pos 1)) (b -ℤ pos 1)))
