@@ -1,7 +1,7 @@
 // The columns of a sum with a wide gap, from the top down: what each adds, and the two ends between which the sum lies.
 
-use batch::{Batch, MOST_TERMS};
-use column::ColumnCursor;
+use batch::Batch;
+use column::CountedTerms;
 use list_batch::{ListBatch, Scaled};
 use sheet::sheet::OpenSheet;
 use std::io;
@@ -28,15 +28,11 @@ fn show(
     }
 }
 
-// The terms go down with each column.
-fn down<B: Batch>(
-    rt: &impl Print,
-    counted: &mut ColumnCursor<'_, B, MOST_TERMS>,
-) -> io::Result<()> {
-    let mut here = counted.next_column();
+fn down<B: Batch>(rt: &impl Print, counted: &CountedTerms, batch: &B) -> io::Result<()> {
+    let mut here = counted.first_column(batch);
     while let Some(column) = here {
-        let (total, below) = counted.column_work(column);
-        let next = counted.next_column();
+        let (total, below) = counted.column_work(batch, column);
+        let next = counted.next_column(batch, column);
         show(rt, column, total, below, next)?;
         here = next;
     }
@@ -51,7 +47,7 @@ pub fn walk(rt: &impl Print) -> io::Result<()> {
     let _ = sheet.mark(1, 1);
     let set = sheet.set();
     match ListBatch::open(&records) {
-        Ok(opened) => down(rt, &mut ColumnCursor::new(&opened, set.marks(), 1)),
+        Ok(opened) => down(rt, &CountedTerms::new(&opened, set.marks()), &opened),
         Err(_) => println!(rt; "  refused"),
     }
 }
