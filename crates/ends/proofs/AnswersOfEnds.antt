@@ -1,16 +1,18 @@
 -- What is written for an end is what the numbers that it stands for round to.
-use Rattle.std.proofs.Common.{◌≡◌, ℕ, suc, ◌+◌, ◌-◌, ◌*◌, ◌/◌, ◌^◌, ◌<◌, ◌≤◌, Bool, true, false, List, get_or, ℤ, pos, ◌+ℤ◌, ◌-ℤ◌, ◌≤ℤ◌, ◌<ℤ◌, Some, None, Option, sym, refl, ap, ◌∙◌, subst, lt_of_lt_of_le, pow-suc, arith, pow_pos, pow_mono, pow-add}
+use Rattle.std.proofs.Common.{◌≡◌, ℕ, suc, ◌+◌, ◌-◌, ◌*◌, ◌/◌, ◌^◌, ◌<◌, ◌≤◌, Bool, true, false, List, get_or, ℤ, pos, ◌+ℤ◌, ◌-ℤ◌, ◌≤ℤ◌, ◌<ℤ◌, Some, None, Option, is_none, sym, refl, ap, ◌∙◌, subst, lt_of_lt_of_le, pow-suc, arith, pow_pos, pow_mono, pow-add}
 use native.Mathlib.Nat.{div-eq_of_lt}
 use lib.Ieee.{size}
 use lib.Ieee.Digits.{size-lt}
 use borrow.Author.Differences.{ints}
 use Rattle.std.proofs.lemmas.Int.{by_lt_z}
+use Rattle.std.proofs.lemmas.Bool.{false≢true}
+use Rattle.std.specs.Option.{option_map_or}
 use Rattle.exact.specs.Integers.{signed, gap}
 use Rattle.exact.specs.Dyadic.{Dyadic, dyadic}
 use Rattle.exact.specs.Limbs.{limbs_value}
 use Rattle.exact.proofs.BitLength.{size_top}
 use Rattle.exact.specs.Dyadic.{◌≈ᴰ◌}
-use Rattle.exact.proofs.Order.{≈ᴰ_trans}
+use Rattle.exact.proofs.Order.{≈ᴰ_sym, ≈ᴰ_trans}
 use Rattle.exact.proofs.BitLength.{pos_of_size}
 use Rattle.exact.proofs.Shifts.{shift_down, shift_up, first_bits_full, half_power}
 use Rattle.exact.proofs.LimbBits.{SmallLimbs, limb_past_value}
@@ -21,7 +23,7 @@ use Rattle.grid.proofs.Everywhere.{LawsEverywhere}
 use Rattle.limbs.specs.Bits.{bit, limbs_for}
 use Rattle.ends.specs.Directions.{direction_sign, toward}
 use Rattle.ends.specs.Ends.{StandsFor, spacing_there}
-use Rattle.ends.specs.Outcome.{RoundsTo, RoundsAs, Placed, Answered, limbs_taken}
+use Rattle.ends.specs.Outcome.{RoundsTo, RoundsAs, Placed, Answered, AnsweredAt, limbs_taken}
 use Rattle.ends.specs.Steps.{Decided, NoneKept, SomeKept}
 use Rattle.ends.specs.declared.direction.Direction.{Direction}
 use Rattle.ends.specs.declared.rounded_end.Extent.{Extent}
@@ -51,6 +53,13 @@ zeros s v = grind (arith, ints)
 to_zero : (u : ℤ → ℤ) (m : Mode) (x : Dyadic) (s : Bool) (a : ℕ) (v d : ℤ) → RoundsTo u m x s 0 v d → RoundsAs u m x s None a d
 to_zero u m x s a v d r = record {
   values = ≈ᴰ_trans (rounded u m x).value (dyadic (signed s 0) v) (dyadic (pos 0) (pos 0)) r.values (zeros s v);
+  signs = r.signs;
+  directions = r.directions;
+}
+
+of_zero : (u : ℤ → ℤ) (m : Mode) (x : Dyadic) (s : Bool) (a : ℕ) (v d : ℤ) → a ≡ 0 → RoundsAs u m x s None a d → RoundsTo u m x s a v d
+of_zero u m x s a v d z r = record {
+  values = ≈ᴰ_trans (rounded u m x).value (dyadic (pos 0) (pos 0)) (dyadic (signed s a) v) r.values (≈ᴰ_sym (dyadic (signed s a) v) (dyadic (pos 0) (pos 0)) (rw z (zeros s v)));
   signs = r.signs;
   directions = r.directions;
 }
@@ -186,3 +195,13 @@ unused_limbs u m s part n w None d xs f A k l = limb_past_value xs 0 k f (subst 
 unused_limbs u m s part n w (Some x) d xs f A k l =
     let P = A.limbs in
     limb_past_value xs (limbs_for x.precision) k f (subst (λ (y : ℕ). y < 2 ^ (32 * limbs_for x.precision)) (sym P.is) (unit_fits P.significand x.precision P.below)) l
+
+-- ---- the answer by its exponent and its precision, where v is the spacing
+pub answered_at : (u : ℤ → ℤ) (m : Mode) (s part : Bool) (n : ℕ) (w : ℤ) (extent : Option Extent) (d : ℤ) (a : ℕ) (v : ℤ) → v ≡ spacing_there u n w
+    → Answered u m s part n w extent d a → AnsweredAt u m s part n w (is_none extent) (option_map_or (λ x. x.exponent) extent v) (option_map_or (λ x. x.precision) extent 0) d a
+answered_at u m s part n w None d a v vv A = record {
+  none = λ z. (A.limbs, refl, vv);
+  placed = λ z. absurd (false≢true (sym z));
+  rounds = λ x g. of_zero u m x s a (v -ℤ pos 0) d A.limbs (A.rounds x g);
+}
+answered_at u m s part n w (Some x) d a v vv A = record { none = λ z. absurd (false≢true z); placed = λ z. A.limbs; rounds = A.rounds }

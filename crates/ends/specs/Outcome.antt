@@ -1,5 +1,6 @@
 -- What rounding an end must tell, and leave in the answer's limbs.
-use Rattle.std.specs.Prelude.{◌≡◌, ℕ, ◌-◌, ◌*◌, ◌^◌, ◌<◌, ◌≤◌, Bool, true, List, ℤ, pos, ◌+ℤ◌, ◌-ℤ◌, ◌≤ℤ◌, ◌<ℤ◌, Some, None, Option, slice_index}
+use Rattle.std.specs.Prelude.{◌≡◌, ℕ, ◌-◌, ◌*◌, ◌^◌, ◌<◌, ◌≤◌, Bool, true, false, List, ℤ, pos, ◌+ℤ◌, ◌-ℤ◌, ◌≤ℤ◌, ◌<ℤ◌, Some, None, Option, is_none, slice_index}
+use Rattle.std.specs.Option.{option_map_or}
 use Rattle.exact.specs.Integers.{signed}
 use Rattle.exact.specs.Dyadic.{Dyadic, dyadic}
 use Rattle.grid.specs.Rounding.{Mode, Answer, rounded, Alike}
@@ -7,6 +8,7 @@ use Rattle.limbs.specs.Bits.{limbs_for}
 use Rattle.ends.specs.Directions.{direction_sign}
 use Rattle.ends.specs.Ends.{StandsFor, Bordered, spacing_there}
 use Rattle.ends.specs.declared.rounded_end.Extent.{Extent}
+use Rattle.ends.specs.declared.rounded_end.PlacedEnd.{PlacedEnd}
 use Rattle.ends.specs.declared.rounded_end.RoundedEnd.{RoundedEnd}
 
 -- the answer of M units of 2 ^ v with the sign s, on the side d of the number
@@ -67,3 +69,22 @@ Undetermined u s partial n w (Some r) = partial ≡ true → ¬ Bordered u s n w
 abbrev pub Unused : Option RoundedEnd → List ℕ → List ℕ → Type 0
 Unused None before after = after ≡ before
 Unused (Some r) before after = (k : ℕ) → limbs_taken r.extent ≤ k → slice_index after k ≡ 0
+
+-- the exponent and the precision of an answer: a zero, which has no extent, has the spacing there and no bits
+abbrev pub exponent_told : PlacedEnd → ℤ
+exponent_told r = option_map_or (λ x. x.exponent) r.rounded.extent r.spacing
+
+abbrev pub precision_told : PlacedEnd → ℕ
+precision_told r = option_map_or (λ x. x.precision) r.rounded.extent 0
+
+-- each number that the end stands for rounds to the limbs a at the exponent e, a fraction of p bits
+pub record AnsweredAt (u : ℤ → ℤ) (m : Mode) (s partial : Bool) (n : ℕ) (w : ℤ) (zero : Bool) (e : ℤ) (p : ℕ) (d : ℤ) (a : ℕ) : Type 0 where
+  pub none : zero ≡ true → (a ≡ 0) × (p ≡ 0) × (e ≡ spacing_there u n w)
+  pub placed : zero ≡ false → Placed u e p a
+  pub rounds : (x : Dyadic) → StandsFor s partial n w x → RoundsTo u m x s a (e -ℤ pos (32 * limbs_for p)) d
+
+-- the same of what the code tells
+abbrev pub RightAt : (ℤ → ℤ) → Mode → Bool → Bool → ℕ → ℤ → PlacedEnd → ℕ → Type 0
+RightAt u m s partial n w r a =
+    (r.rounded.negative ≡ s)
+    × AnsweredAt u m s partial n w (is_none r.rounded.extent) (exponent_told r) (precision_told r) (direction_sign r.rounded.direction) a

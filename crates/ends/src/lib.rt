@@ -9,5 +9,5 @@ mod rounding;
 
 pub use direction::Direction;
 pub use end::End;
-pub use rounded_end::{Extent, RoundedEnd};
+pub use rounded_end::{Extent, PlacedEnd, RoundedEnd};
 pub use rounding::round_end;

@@ -1,17 +1,17 @@
 // Rounding one end of a sum to a grid.
-ghost use Rattle.std.specs.Prelude.{◌≡◌, ℕ, ◌+◌, ◌-◌, ◌*◌, ◌/◌, ◌^◌, ◌<◌, ◌≤◌, true, false, length, ℤ, pos, ◌+ℤ◌, ◌*ℤ◌, neg_ℤ, ◌≤ℤ◌, ◌<ℤ◌};
+ghost use Rattle.std.specs.Prelude.{◌≡◌, ℕ, ◌+◌, ◌-◌, ◌*◌, ◌/◌, ◌^◌, ◌<◌, ◌≤◌, true, false, length, ℤ, pos, ◌+ℤ◌, ◌*ℤ◌, neg_ℤ, ◌≤ℤ◌, ◌<ℤ◌, option_map, IfSome};
 ghost use Rattle.std.specs.Float.Ieee.{size};
 ghost use Rattle.exact.specs.Limbs.{limbs_value};
 ghost use Rattle.grid.specs.Spacing.{lowest, highest, Lawful};
 ghost use Rattle.grid.specs.Modes.{mode_of};
 ghost use Rattle.limbs.specs.Bits.{bit, most_limbs};
-ghost use Rattle.ends.specs.Ends.{furthest_column};
-ghost use Rattle.ends.specs.Outcome.{Outcome, Undetermined, Unused, Right};
+ghost use Rattle.ends.specs.Ends.{furthest_column, spacing_there};
+ghost use Rattle.ends.specs.Outcome.{Outcome, Undetermined, Unused, Right, RightAt};
 ghost use Rattle.ends.specs.Steps.{Decided, NoneKept, SomeKept};
 
 use crate::decision::{Decision, decide};
 use crate::end::End;
-use crate::rounded_end::{Extent, RoundedEnd};
+use crate::rounded_end::{Extent, PlacedEnd, RoundedEnd};
 use grid::{Grid, Mode, Rounding};
 use limbs::{BoundedLimbs, bit_length, write_power, write_rounded};
 
@@ -139,16 +139,18 @@ fn exponent_of(column: i32, bits: usize) -> i32
 
 // Rounds an end: each number that it stands for rounds to the answer. None where a part is left over and the spacing is no more than a unit.
 // For the ask, which meets the bounds: few limbs, columns within those of its terms, room for the width of the grid, and an exact zero told before.
-pub fn round_end<G: Grid>(end: End, rounding: Rounding<G>, answer: &mut [u32]) -> Option<RoundedEnd>
+pub fn round_end<G: Grid>(end: End, rounding: Rounding<G>, answer: &mut [u32]) -> Option<PlacedEnd>
     requires whole { length end.whole.now ≤ most_limbs }
     requires few { length answer.old ≤ most_limbs }
     requires room { G.widest rounding.grid.now ≤ 32 * length answer.old }
     requires from { neg_ℤ (pos furthest_column) ≤ℤ end.column }
     requires upto { end.column ≤ℤ pos furthest_column }
     requires nonzero { end.partial ≡ false → 0 < limbs_value end.whole.now }
-    ensures outcome { Outcome (G.spacing rounding.entry.grid.now) (mode_of rounding.entry.mode) end.entry.negative end.entry.partial (limbs_value end.entry.whole.now) (pos 32 *ℤ end.entry.column) result (limbs_value answer.new) }
-    ensures undetermined { Undetermined (G.spacing rounding.entry.grid.now) end.entry.negative end.entry.partial (limbs_value end.entry.whole.now) (pos 32 *ℤ end.entry.column) result }
-    ensures unused { Unused result answer.old answer.new }
+    ensures outcome { Outcome (G.spacing rounding.entry.grid.now) (mode_of rounding.entry.mode) end.entry.negative end.entry.partial (limbs_value end.entry.whole.now) (pos 32 *ℤ end.entry.column) (option_map (λ r. r.rounded) result) (limbs_value answer.new) }
+    ensures undetermined { Undetermined (G.spacing rounding.entry.grid.now) end.entry.negative end.entry.partial (limbs_value end.entry.whole.now) (pos 32 *ℤ end.entry.column) (option_map (λ r. r.rounded) result) }
+    ensures unused { Unused (option_map (λ r. r.rounded) result) answer.old answer.new }
+    ensures spacing { IfSome result (λ r. r.spacing ≡ spacing_there (G.spacing rounding.entry.grid.now) (limbs_value end.entry.whole.now) (pos 32 *ℤ end.entry.column)) }
+    ensures told { IfSome result (λ r. RightAt (G.spacing rounding.entry.grid.now) (mode_of rounding.entry.mode) end.entry.negative end.entry.partial (limbs_value end.entry.whole.now) (pos 32 *ℤ end.entry.column) r (limbs_value answer.new)) }
 {
     let bits = bit_length(end.whole);
     let base = exponent_of(end.column, 0);
@@ -165,5 +167,8 @@ pub fn round_end<G: Grid>(end: End, rounding: Rounding<G>, answer: &mut [u32]) -
         unit,
         next,
     };
-    Some(round_at(end, place, rounding.mode, answer))
+    Some(PlacedEnd {
+        rounded: round_at(end, place, rounding.mode, answer),
+        spacing: unit,
+    })
 }

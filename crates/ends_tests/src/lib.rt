@@ -25,7 +25,7 @@ mod tests {
             partial: false,
         };
         let mut answer = [7u32; 4];
-        let rounded = round_end(end, rounding, &mut answer).ok_or(UNDETERMINED)?;
+        let placed = round_end(end, rounding, &mut answer).ok_or(UNDETERMINED)?;
         let told = RoundedEnd {
             negative: false,
             direction: Direction::Below,
@@ -34,7 +34,7 @@ mod tests {
                 precision: 2,
             }),
         };
-        assert_eq!(rt; rounded, told);
+        assert_eq!(rt; placed.rounded, told);
         assert_eq!(rt; answer[0], 0x8000_0000);
         assert_eq!(rt; answer[1], 0);
         Ok(())
@@ -55,7 +55,7 @@ mod tests {
             partial: false,
         };
         let mut answer = [7u32; 4];
-        let rounded = round_end(end, rounding, &mut answer).ok_or(UNDETERMINED)?;
+        let placed = round_end(end, rounding, &mut answer).ok_or(UNDETERMINED)?;
         let told = RoundedEnd {
             negative: true,
             direction: Direction::Below,
@@ -64,7 +64,7 @@ mod tests {
                 precision: 2,
             }),
         };
-        assert_eq!(rt; rounded, told);
+        assert_eq!(rt; placed.rounded, told);
         assert_eq!(rt; answer[0], 0x8000_0000);
         Ok(())
     }
@@ -84,7 +84,7 @@ mod tests {
             partial: true,
         };
         let mut answer = [7u32; 4];
-        let rounded = round_end(end, rounding, &mut answer).ok_or(UNDETERMINED)?;
+        let placed = round_end(end, rounding, &mut answer).ok_or(UNDETERMINED)?;
         let told = RoundedEnd {
             negative: false,
             direction: Direction::Above,
@@ -93,7 +93,7 @@ mod tests {
                 precision: 40,
             }),
         };
-        assert_eq!(rt; rounded, told);
+        assert_eq!(rt; placed.rounded, told);
         assert_eq!(rt; answer[0], 0x0100_0000);
         assert_eq!(rt; answer[1], 0x8000_0000);
         assert_eq!(rt; answer[2], 0);
@@ -115,7 +115,7 @@ mod tests {
             partial: true,
         };
         let mut answer = [7u32; 2];
-        let rounded = round_end(end, rounding, &mut answer).ok_or(UNDETERMINED)?;
+        let placed = round_end(end, rounding, &mut answer).ok_or(UNDETERMINED)?;
         let told = RoundedEnd {
             negative: true,
             direction: Direction::Below,
@@ -124,8 +124,37 @@ mod tests {
                 precision: 1,
             }),
         };
-        assert_eq!(rt; rounded, told);
+        assert_eq!(rt; placed.rounded, told);
         assert_eq!(rt; answer[0], 0x8000_0000);
+        assert_eq!(rt; answer[1], 0);
+        Ok(())
+    }
+
+    // -2 ^ -1088 goes to 0, whose exponent is that of a step of the grid, and which has no bits.
+    #[test]
+    fn a_zero_has_the_spacing_as_its_exponent(rt: HostRuntime) -> Result<(), Fail> {
+        let grid = FlooredGrid::new(53, -1074)?;
+        let rounding = Rounding {
+            grid: &grid,
+            mode: Mode::Nearest,
+        };
+        let end = End {
+            negative: true,
+            whole: &[1],
+            column: -34,
+            partial: false,
+        };
+        let mut answer = [7u32; 2];
+        let placed = round_end(end, rounding, &mut answer).ok_or(UNDETERMINED)?;
+        let told = RoundedEnd {
+            negative: true,
+            direction: Direction::Above,
+            extent: None,
+        };
+        assert_eq!(rt; placed.rounded, told);
+        assert_eq!(rt; placed.exponent(), -1074);
+        assert_eq!(rt; placed.precision(), 0);
+        assert_eq!(rt; answer[0], 0);
         assert_eq!(rt; answer[1], 0);
         Ok(())
     }

@@ -52,5 +52,5 @@ pub fn round_settled<G: Grid>(
         write_power(0, answer);
         return Some(NOTHING);
     }
-    round_end(end, rounding, answer)
+    round_end(end, rounding, answer).map(|placed| placed.rounded)
 }

@@ -10,7 +10,7 @@ use Rattle.grid.proofs.Everywhere.{laws_everywhere}
 use Rattle.ends.specs.Ends.{spacing_there}
 use Rattle.ends.specs.Outcome.{Right}
 use Rattle.ends.proofs.Borders.{fine_bordered, coarse_not_bordered}
-use Rattle.ends.proofs.AnswersOfEnds.{laws_there, unused_limbs}
+use Rattle.ends.proofs.AnswersOfEnds.{laws_there, unused_limbs, answered_at}
 use Rattle.ends.proofs.rounding.round_end.Goals as goal
 use Rattle.ends.proofs.rounding.round_end.Goals.{else-end-via-then-end+else-unit-base, else-end-via-else-end}
 
@@ -99,6 +99,7 @@ returns g c =
     let xf : SFits w32 x = search rules in
     let wf : SFits w32 w = search rules in
     let V : v ≡ spacing_there u n h = there u n h e v ef c.spacing-unit.ensures (omega (arith, ints, c.exponent_of-exponent.ensures.is, c.bit_length-bits.ensures.is)) in
+    let R : read v ≡ spacing_there u n h = to_z-of_z w32 v vf ∙ V in
     let next : read (read e +ℤ pos 1) ≡ read e +ℤ pos 1 = omega (arith, ints, c.exponent_of-exponent.ensures.upto) in
     let B : read w ≡ h = omega (arith, ints, c.exponent_of-base.ensures.is) in
     let r = c.round_at.result in
@@ -114,4 +115,6 @@ returns g c =
       outcome = (coarse, a);
       undetermined = λ p. coarse_not_bordered u (laws_everywhere u (g.G.Grid.widest s) L) c.args.end.negative n h (coarse p);
       unused = unused_limbs u m c.args.end.negative c.args.end.partial n h r.extent _ c.round_at.new.answer (λ i l. (c.type_inv.answer i).fits) a.1;
+      spacing = R;
+      told = (a.0, answered_at u m c.args.end.negative c.args.end.partial n h r.extent _ (limbs_value c.round_at.new.answer) (read v) R a.1);
     }

@@ -1,8 +1,11 @@
-use Rattle.std.proofs.Common.{sym, ◌∙◌}
+use Rattle.std.proofs.Common.{◌≡◌, Option, option_map, sym, ◌∙◌, subst, rules}
 use Rattle.std.proofs.lemmas.Bool.{false≢true}
 use Rattle.exact.specs.Limbs.{limbs_value}
 use Rattle.grid.specs.Modes.{mode_of}
 use Rattle.batch.specs.Term.{column_weight}
+use Rattle.ends.specs.declared.rounded_end.PlacedEnd.{PlacedEnd}
+use Rattle.ends.specs.declared.rounded_end.RoundedEnd.{RoundedEnd}
+use Rattle.partial_sum.specs.Rounded.{RoundedAt}
 use Rattle.partial_sum.proofs.Determined.{as_rounded, nothing_rounds}
 use Rattle.partial_sum.proofs.Meaning.{no_bits, some_bits}
 use Rattle.partial_sum.proofs.settling.round_settled.Goals as goal
@@ -27,5 +30,10 @@ round_end-requires g c = record {
 
 pub returns : goal.returns
 returns g c = λ v meant.
-    as_rounded (g.G.Grid.spacing c.args.rounding.grid.now) (mode_of c.args.rounding.mode) c.args.end.negative c.args.end.partial (limbs_value c.args.end.whole.now) v (column_weight c.args.end.column)
-    c.round_end.result (limbs_value c.round_end.new.answer) meant c.round_end.ensures.outcome c.round_end.ensures.undetermined
+    let u = g.G.Grid.spacing c.args.rounding.grid.now in
+    let m = mode_of c.args.rounding.mode in
+    let w = column_weight c.args.end.column in
+    let a = limbs_value c.round_end.new.answer in
+    let rounded : option_map (λ (r : PlacedEnd). r.rounded) c.round_end.result ≡ c.map.result = search rules in
+    let told = c.round_end.ensures in
+    subst (λ (r : Option RoundedEnd). RoundedAt u m c.args.end.partial v w r a) rounded (as_rounded u m c.args.end.negative c.args.end.partial (limbs_value c.args.end.whole.now) v w _ a meant told.outcome told.undetermined)
