@@ -10,12 +10,16 @@ ghost use Rattle.list_batch.specs.Lists.{flat, list_fault};
 ghost use Rattle.list_batch.specs.Rows.{row_parts};
 ghost use Rattle.list_batch.specs.ScaledTerms.{scaled_parts};
 
+mod five_halves;
 #[cfg(test)]
 mod limb_tests;
 #[cfg(test)]
 mod list_tests;
+#[cfg(test)]
+mod own_tests;
 
 use batch::{BatchFault, regular_count};
+pub use five_halves::FiveHalves;
 use limb_batch::{LimbBatch, LimbRecord};
 use list_batch::{ListBatch, Record, Row, Scaled};
 
