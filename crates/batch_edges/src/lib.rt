@@ -27,7 +27,7 @@ pub fn regular_limbs(records: &[LimbRecord], pool: &[u32]) -> Result<usize, Batc
     ensures refuses { result_err result ≡ opening_fault pool.now records.now }
     ensures counts { IfOk result (λ n. n ≡ regular_terms (record_terms pool.now records.now)) }
 {
-    let batch = LimbBatch::open(records, pool)?;
+    let batch = LimbBatch::try_open(records, pool)?;
     Ok(regular_count(&batch))
 }
 
