@@ -32,8 +32,4 @@ impl Batch for NoTerms {
     fn digit(&self, _i: usize, _column: i32) -> u32 {
         0
     }
-
-    fn digits(&self, _i: usize, _column: i32, digits: &mut [u32]) {
-        digits.fill(0);
-    }
 }

@@ -1,3 +1,4 @@
 pub mod Regulars
 pub mod Lookups
 pub mod Units
+pub mod Runs

@@ -29,10 +29,18 @@ pub trait Batch {
     fn digit(&self, i: usize, column: i32) -> u32
         ensures { result ≡ digit_of_term (terms self.now) i column };
 
-    // Its digits at a column and at those below it, one for each place of the slice.
+    // Its digits at a column and at those below it, one for each place of the slice; below the lowest column that an i32
+    // names every digit is 0. A batch that can read a run faster has a body of its own.
     fn digits(&self, i: usize, column: i32, digits: &mut [u32])
         ensures many { length digits.new ≡ length digits.old }
-        ensures each { (j : ℕ) → j < length digits.old → slice_index digits.new j ≡ digit_of_term (terms self.now) i (column -ℤ pos j) };
+        ensures each { (j : ℕ) → j < length digits.old → slice_index digits.new j ≡ digit_of_term (terms self.now) i (column -ℤ pos j) }
+    {
+        let mut at = Some(column);
+        for digit in digits.iter_mut() {
+            *digit = at.map_or(0, |column| self.digit(i, column));
+            at = at.and_then(|column| column.checked_sub(1));
+        }
+    }
 }
 
 // How many terms of a batch are regular.

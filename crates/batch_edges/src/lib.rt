@@ -10,12 +10,16 @@ ghost use Rattle.list_batch.specs.Lists.{flat, list_fault};
 ghost use Rattle.list_batch.specs.Rows.{row_parts};
 ghost use Rattle.list_batch.specs.ScaledTerms.{scaled_parts};
 
+mod five_halves;
 #[cfg(test)]
 mod limb_tests;
 #[cfg(test)]
 mod list_tests;
+#[cfg(test)]
+mod own_tests;
 
 use batch::{BatchFault, regular_count};
+pub use five_halves::FiveHalves;
 use limb_batch::{LimbBatch, LimbRecord};
 use list_batch::{ListBatch, Record, Row, Scaled};
 
@@ -23,7 +27,7 @@ pub fn regular_limbs(records: &[LimbRecord], pool: &[u32]) -> Result<usize, Batc
     ensures refuses { result_err result ≡ opening_fault pool.now records.now }
     ensures counts { IfOk result (λ n. n ≡ regular_terms (record_terms pool.now records.now)) }
 {
-    let batch = LimbBatch::open(records, pool)?;
+    let batch = LimbBatch::try_open(records, pool)?;
     Ok(regular_count(&batch))
 }
 

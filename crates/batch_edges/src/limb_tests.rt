@@ -17,10 +17,11 @@ fn positive(exponent: i64, precision: u64, place: usize) -> LimbRecord {
 }
 
 #[test]
-fn short_significands(rt: HostRuntime) -> Result<(), Fail> {
+fn short_significands(rt: HostRuntime) {
     let pool = [TOP_BIT + 1, TOP_BIT, TOP_BIT];
     let records = [positive(1, 1, 1), positive(32, 32, 0), positive(33, 33, 1)];
-    let batch = LimbBatch::open(&records, &pool)?;
+    let (batch, fault) = LimbBatch::open(&records, &pool);
+    assert_eq!(rt; fault, None);
     assert_eq!(rt; batch.count(), 3);
     assert_eq!(rt; regular_count(&batch), 3);
     assert_eq!(rt; (batch.low(0), batch.top(0), batch.digit(0, 0)), (0, 1, 1));
@@ -30,16 +31,16 @@ fn short_significands(rt: HostRuntime) -> Result<(), Fail> {
     assert_eq!(rt; (batch.digit(2, 0), batch.digit(2, 1)), (1, 1));
     assert_eq!(rt; (batch.digit(2, -1), batch.digit(2, 2)), (0, 0));
     assert_eq!(rt; (batch.kind(3), batch.top(3)), (Kind::Absent, 0));
-    Ok(())
 }
 
 #[test]
-fn longest_significand(rt: HostRuntime) -> Result<(), Fail> {
+fn longest_significand(rt: HostRuntime) {
     let mut pool = [0; 128];
     pool[0] = 1;
     pool[127] = TOP_BIT;
     let records = [positive(4096, 4096, 0), positive(4095, 4096, 0)];
-    let batch = LimbBatch::open(&records, &pool)?;
+    let (batch, fault) = LimbBatch::open(&records, &pool);
+    assert_eq!(rt; fault, None);
     assert_eq!(rt; (batch.low(0), batch.top(0)), (0, 4096));
     assert_eq!(rt; (batch.digit(0, 0), batch.digit(0, 127)), (1, TOP_BIT));
     assert_eq!(rt; (batch.low(1), batch.top(1)), (-1, 4095));
@@ -47,17 +48,17 @@ fn longest_significand(rt: HostRuntime) -> Result<(), Fail> {
         (batch.digit(1, -1), batch.digit(1, 127)),
         (TOP_BIT, TOP_BIT / 2)
     );
-    Ok(())
 }
 
 #[test]
-fn farthest_exponents(rt: HostRuntime) -> Result<(), Fail> {
+fn farthest_exponents(rt: HostRuntime) {
     let pool = [TOP_BIT];
     let records = [
         positive(1_000_000_000, 1, 0),
         positive(-1_000_000_000, 1, 0),
     ];
-    let batch = LimbBatch::open(&records, &pool)?;
+    let (batch, fault) = LimbBatch::open(&records, &pool);
+    assert_eq!(rt; fault, None);
     assert_eq!(rt; (batch.low(0), batch.top(0)), (999_999_999, 1_000_000_000));
     assert_eq!(rt;
         (batch.low(1), batch.top(1)),
@@ -79,15 +80,13 @@ fn farthest_exponents(rt: HostRuntime) -> Result<(), Fail> {
         (batch.digit(1, i32::MAX), batch.digit(1, i32::MIN)),
         (0, 0)
     );
-    Ok(())
 }
 
 // The number and the place of the fault of a record that stands after a zero.
 fn fault_after_zero(record: LimbRecord, pool: &[u32]) -> Option<(u32, usize)> {
     let records = [ZERO, record];
-    LimbBatch::open(&records, pool)
-        .err()
-        .map(|fault| (fault.number(), fault.place()))
+    let (_, fault) = LimbBatch::open(&records, pool);
+    fault.map(|fault| (fault.number(), fault.place()))
 }
 
 #[test]
@@ -129,12 +128,18 @@ fn faults_in_their_order(rt: HostRuntime) {
 fn too_many_records(rt: HostRuntime) -> Result<(), Fail> {
     let pool = [0; 1];
     let fitting = [ZERO; 1024];
-    assert_eq!(rt; LimbBatch::open(&fitting, &pool)?.count(), 1024);
+    let (batch, fault) = LimbBatch::open(&fitting, &pool);
+    assert_eq!(rt; (batch.count(), fault), (1024, None));
+    assert_eq!(rt; LimbBatch::try_open(&fitting, &pool)?.count(), 1024);
     let mut records = [ZERO; 1025];
     records[0].kind = 7;
-    let fault = LimbBatch::open(&records, &pool).err().ok_or("not refused")?;
+    let (batch, fault) = LimbBatch::open(&records, &pool);
+    assert_eq!(rt; batch.count(), 0);
+    let fault = fault.ok_or("not refused")?;
     assert_eq!(rt; fault, BatchFault::TooManyTerms);
     assert_eq!(rt; (fault.number(), fault.place()), (1, 0));
-    assert_eq!(rt; LimbBatch::open(&records[..0], &pool)?.count(), 0);
+    let refused = LimbBatch::try_open(&records, &pool).err();
+    assert_eq!(rt; refused, Some(fault));
+    assert_eq!(rt; LimbBatch::try_open(&records[..0], &pool)?.count(), 0);
     Ok(())
 }

@@ -1,6 +1,6 @@
 // A limb batch: records over a pool of limbs, with no fault among them.
 ghost use Rattle.std.specs.Result.{result_err};
-ghost use Rattle.std.specs.Prelude.{◌≡◌, false, is_some, MatchOption, IfOk};
+ghost use Rattle.std.specs.Prelude.{◌≡◌, false, is_some, if◌then◌else◌, MatchOption, IfOk, []};
 ghost use Rattle.batch.specs.TermKinds.{kind_is_regular};
 ghost use Rattle.batch.specs.Lookup.{kind_of_term};
 ghost use Rattle.limb_batch.specs.Records.{record_terms};
@@ -79,12 +79,33 @@ impl<'r, 'p> LimbBatch<'r, 'p> {
     ghost use Rattle.limb_batch.specs.contracts.opened.LimbBatchBatch.TheImpl.{ghosts};
 
     // The batch that the records spell, or the fault of the first record that has one.
-    pub fn open(records: &'r [LimbRecord], pool: &'p [u32]) -> Result<LimbBatch<'r, 'p>, BatchFault>
+    pub fn try_open(
+        records: &'r [LimbRecord],
+        pool: &'p [u32],
+    ) -> Result<LimbBatch<'r, 'p>, BatchFault>
         ensures refuses { result_err result ≡ opening_fault pool.now records.now }
         ensures first { Told pool.now records.now (result_err result) }
         ensures means { IfOk result (λ b. ghosts.terms b ≡ record_terms pool.now records.now) }
     {
         check_records(pool, records)?;
         Ok(LimbBatch { records, pool })
+    }
+
+    // The batch that the records spell; where there is a fault, the fault and a batch of no terms.
+    pub fn open(
+        records: &'r [LimbRecord],
+        pool: &'p [u32],
+    ) -> (LimbBatch<'r, 'p>, Option<BatchFault>)
+        ensures refuses { result.1 ≡ opening_fault pool.now records.now }
+        ensures first { Told pool.now records.now result.1 }
+        ensures means { ghosts.terms result.0 ≡ (if is_some result.1 then [] else record_terms pool.now records.now) }
+    {
+        match LimbBatch::try_open(records, pool) {
+            Ok(batch) => (batch, None),
+            Err(fault) => {
+                let records = &records[..0];
+                (LimbBatch { records, pool }, Some(fault))
+            }
+        }
     }
 }

@@ -118,7 +118,7 @@ impl TermList {
         ensures { ghosts.terms result ≡ terms_of self.now }
     {
         // No record that is kept has a fault.
-        LimbBatch::open(&self.records[..self.count], &self.pool[..self.used]).unwrap()
+        LimbBatch::try_open(&self.records[..self.count], &self.pool[..self.used]).unwrap()
     }
 
     fn check_room(&self) -> Result<(), BatchFault>
@@ -170,7 +170,7 @@ impl TermList {
             ≡ term_meant negative exponent precision (limbs_behind limbs self.now)) }
     {
         let record = regular_record(negative, exponent, precision, self.used);
-        match LimbBatch::open(&[record], self.pool_seen(precision, limbs)) {
+        match LimbBatch::try_open(&[record], self.pool_seen(precision, limbs)) {
             Ok(_) => Ok(record),
             Err(BatchFault::AtRecord(_, fault)) => Err(BatchFault::AtRecord(self.count, fault)),
             Err(fault) => Err(fault),

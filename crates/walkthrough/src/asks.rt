@@ -112,7 +112,7 @@ fn from_limbs(rt: &impl Print) -> io::Result<()> {
         LimbRecord::new(Kind::Positive, 41, 3, 3),
         LimbRecord::new(Kind::Positive, -1999, 1, 4),
     ];
-    let opened = LimbBatch::open(&records, &POOL);
+    let opened = LimbBatch::try_open(&records, &POOL);
     let mut sheet = lay(rt)?;
     mark_with_undo(rt, &mut sheet)?;
     let set_sheet = set(rt, sheet)?;

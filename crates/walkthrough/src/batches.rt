@@ -63,7 +63,7 @@ fn limbs(rt: &impl Print) -> io::Result<()> {
     show(
         rt,
         "limbs: 5, -(1 + 2^-32), -0",
-        LimbBatch::open(&records, &POOL),
+        LimbBatch::try_open(&records, &POOL),
     )
 }
 
@@ -84,7 +84,7 @@ fn scaled(rt: &impl Print) -> io::Result<()> {
 // Opens one good record and then one with a fault.
 fn try_record(rt: &impl Print, name: &str, record: LimbRecord) -> io::Result<()> {
     let records = [LimbRecord::new(Kind::NotANumber, 0, 0, 0), record];
-    show_refusal(rt, name, LimbBatch::open(&records, &POOL))
+    show_refusal(rt, name, LimbBatch::try_open(&records, &POOL))
 }
 
 fn refused_records(rt: &impl Print) -> io::Result<()> {

@@ -46,7 +46,7 @@ pub fn ask_whole(
     ensures equals { told_whole result limbs.new ≡ asked_whole terms.now pool.now width mode (length limbs.old) }
     ensures refused { is_err result ≡ true → limbs.new ≡ limbs.old }
 {
-    let batch = LimbBatch::open(terms, pool)?;
+    let batch = LimbBatch::try_open(terms, pool)?;
     let grid = FreeGrid::new(width)?;
     let sheet = first_in(batch.count() as u32)?;
     Ok(repeat_ask(&sheet, &batch, &grid, mode, repeats, limbs)?)

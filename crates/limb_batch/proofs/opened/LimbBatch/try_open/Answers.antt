@@ -3,7 +3,7 @@ use Rattle.std.proofs.Common.{◌≡◌, None, sym, subst, rules, tests}
 use Rattle.std.specs.Result.{result_err}
 use Rattle.limb_batch.specs.Opening.{Told, opening_fault}
 use Rattle.limb_batch.proofs.FirstFaults.{opening_told}
-use Rattle.limb_batch.proofs.opened.LimbBatch.open.Goals as goal
+use Rattle.limb_batch.proofs.opened.LimbBatch.try_open.Goals as goal
 
 pub returns-in_err-check_records-clause-first : goal.returns-in_err-check_records-clause-first
 returns-in_err-check_records-clause-first c =
