@@ -15,19 +15,18 @@ use std::io;
 // How many places are looked at.
 const PLACES: u32 = 1024;
 
-fn is_marked<S: MarkedSheet>(sheet: &S, place: u32) -> bool {
-    sheet.mark_at(place) != Mark::Out
-}
-
-// Prints the places that are not out.
+// Prints the places that are not out, and how many they are.
 pub fn marks<S: MarkedSheet>(rt: &impl Print, sheet: &S) -> io::Result<()> {
     print!(rt; "  marks:")?;
+    let mut marked = 0u32;
     // By number: a sheet is read place by place, and its interface has no iterator.
-    for place in (0..PLACES).filter(|&place| is_marked(sheet, place)) {
+    for place in 0..PLACES {
         let mark = sheet.mark_at(place);
-        print!(rt; " {place} {mark},")?;
+        if mark != Mark::Out {
+            marked = marked.saturating_add(1);
+            print!(rt; " {place} {mark},")?;
+        }
     }
-    let marked = (0..PLACES).filter(|&place| is_marked(sheet, place)).count();
     println!(rt; " {marked} of {PLACES} not out")
 }
 

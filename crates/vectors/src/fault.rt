@@ -12,7 +12,7 @@ pub enum CaseFault {
     NotANumber(ParseIntError),
     #[error("more digits than are read")]
     TooManyDigits,
-    #[error("out of memory")]
+    #[error("memory allocation failed")]
     OutOfMemory,
 }
 
