@@ -46,9 +46,9 @@ pub fn round_sum<B: Batch, G: Grid>(
     }
 }
 
-// How many columns are added up one by one at first. Few digits are settled by two or three columns; many by as many as a long run has. Only speed hangs on it.
+// How many columns are added up one by one at first. Few digits are settled by two to five columns; many by as many as a long run has. Only speed hangs on it.
 fn columns_one_by_one(width: u32) -> usize {
-    if width <= 64 { 8 } else { 0 }
+    if width <= 128 { 8 } else { 0 }
 }
 
 // With a list that has room for so many terms. Apart from its caller, which then clears no list but the one that it takes.

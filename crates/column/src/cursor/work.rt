@@ -35,6 +35,12 @@ fn next_height(singles: usize, top: i32, lowest: i32) -> usize
     left.clamp(1, 34) as usize
 }
 
+// The lowest column in which one of the terms ends that begin at a column or above it.
+fn lowest_of_begun(terms: &[CountedTerm], column: i32) -> i32 {
+    let begun = terms.iter().filter(|term| term.first >= column);
+    begun.map(|term| term.last).min().unwrap_or(column)
+}
+
 // The totals of so many columns down from one, of some terms of a batch: term by term, since a batch reads a run of digits of one term at once.
 fn run_totals<B: Batch>(
     batch: &B,
@@ -93,6 +99,16 @@ impl<'b, B: Batch, const CAP: usize> ColumnCursor<'b, B, CAP> {
         self.column = column;
     }
 
+    // How far down the next run goes at most. The first goes no further than the terms that begin in the first column: one term far below asks for no digits
+    // of those above. Only speed hangs on it.
+    fn lowest_ahead(&self, top: i32) -> i32 {
+        if self.singles == 0 && self.run.top == i32::MAX {
+            lowest_of_begun(self.terms.as_slice(), top)
+        } else {
+            self.lowest
+        }
+    }
+
     // Adds up the run of columns down from one, and goes there.
     fn add_up(&mut self, top: i32)
         requires down { top <ℤ standing self.old }
@@ -100,7 +116,8 @@ impl<'b, B: Batch, const CAP: usize> ColumnCursor<'b, B, CAP> {
         ensures at { standing self.new ≡ top }
         ensures same { SameColumns (listed_parts self.old) (listed_parts self.new) }
     {
-        let height = next_height(self.singles, top, self.lowest);
+        let lowest = self.lowest_ahead(top);
+        let height = next_height(self.singles, top, lowest);
         let bottom = top - (height - 1) as i32;
         let zones = go_down(self.terms.as_mut_slice(), self.zones, top, bottom);
         let begun = &self.terms.as_slice()[zones.ended..zones.begun];
