@@ -13,7 +13,7 @@ ghost use Rattle.column.specs.Listed.{listed_part, highest_occupied};
 ghost use Rattle.column.specs.Walk.{first_column, first_below, Highest, highest_spanned};
 
 use crate::run::total_of;
-use crate::term::{COLUMN_BITS, CountedTerm, counted_term};
+use crate::term::{COLUMN_BITS, CountedTerm};
 use arrayvec::ArrayVec;
 use batch::{Batch, Kind};
 use sheet::marks::Marks;
@@ -22,11 +22,25 @@ use survey::counted_kind;
 // How many weights a column has.
 const WEIGHTS: i64 = 32;
 
-// Of its terms the places and the signs are read alone: the columns that they keep are those in the batch from which they were listed.
+// Of its terms it keeps the places and the signs alone: their columns are those in the batch that is asked of.
 #[derive(Drop)]
 pub struct CountedTerms {
     terms: ArrayVec<CountedTerm, 1024>,
     ghost fits: { length terms.items ≤ 1024 },
+}
+
+// The term at a place, with the sign that it counts with. No columns are kept of it.
+fn listed_term(place: usize, negative: bool) -> CountedTerm
+    requires { place < 1024 }
+    ensures place { result.place ≡ place }
+    ensures sign { result.negative ≡ negative }
+{
+    CountedTerm {
+        place: place as u16,
+        negative,
+        first: 0,
+        last: 0,
+    }
 }
 
 // The highest column below a limit among those that the weights from low up to top lie in.
@@ -80,7 +94,7 @@ impl CountedTerms {
         for place in 0..batch.count() {
             let kind = counted_kind(marks.at(place as u32), batch.kind(place));
             if kind.is_regular() {
-                let term = counted_term(batch, place, kind == Kind::Negative);
+                let term = listed_term(place, kind == Kind::Negative);
                 terms.push(term);
             }
         }

@@ -18,8 +18,8 @@ loop-place-preserved g c =
     let kind = c.counted_kind-kind.ensures ∙ ap₂ counted_kind c.at.ensures c.kind.ensures in
     elim c.if-is_regular.branch [
       | then-is_regular w ↦
-          let stands = listed_one ts marks i in_list c.counted_kind-kind.result kind c.loop-place.terms.items w.push.new.self.items w.counted_term-term.result c.loop-place.invariant.stands
-          (sym c.is_regular.ensures ∙ w.if-is_regular.true) w.counted_term-term.ensures.place (w.counted_term-term.ensures.sign ∙ w.eq.ensures ∙ is_below_0 c.counted_kind-kind.result) w.push.ensures.items in
+          let stands = listed_one ts marks i in_list c.counted_kind-kind.result kind c.loop-place.terms.items w.push.new.self.items w.listed_term-term.result c.loop-place.invariant.stands
+          (sym c.is_regular.ensures ∙ w.if-is_regular.true) w.listed_term-term.ensures.place (w.listed_term-term.ensures.sign ∙ w.eq.ensures ∙ is_below_0 c.counted_kind-kind.result) w.push.ensures.items in
           rw w.terms-is record { stands = stands; few = omega (arith, w.push.ensures.len, c.loop-place.invariant.few) }
       | else-is_regular w ↦
           let stands = listed_none ts marks i in_list c.counted_kind-kind.result kind c.loop-place.terms.items c.loop-place.invariant.stands (sym c.is_regular.ensures ∙ w.if-is_regular.false) in
